@@ -1,0 +1,191 @@
+-- The loop that reads a text record by record.
+use Prim.Native.Nat.{ℕ, suc, _+_, _-_, _<_, _≤_}
+use mathlib.Core.Path.{_≡_, refl, sym, ap, _∙_}
+use mathlib.Core.Bool.{Bool, true, false, cond, _&&_}
+use mathlib.Core.List.{List, [], _∷_, _++_, append-assoc}
+use lib.ListN.{length, drop, length-append, length-drop, drop-of-length-le}
+use lib.Dec.{eqb, ltb}
+use native.Mathlib.Omega.{arith}
+use borrow.Author.Tests.{lt-ltb, le-ltb}
+use Rattle.index.specs.declared.Kind.{Kind}
+use Rattle.index.specs.Text.{Entry, entryText, IsSet, Writes}
+use Rattle.index.specs.declared.reading.Cursor.{Cursor}
+use Rattle.index.specs.declared.reading.Piece.{Piece}
+use Rattle.index.specs.declared.reading.Piece.the-variants.{Found, Wrong}
+use Rattle.index.specs.Pieces.{seen, more, rest}
+use Rattle.index.proofs.SetText.{rest-next}
+use Rattle.index.specs.Reading.{Read, andThen, readMark, readRecord, readMore, readRecords, parse}
+use Rattle.index.specs.Reading.Read.{got, wrong}
+use Rattle.index.proofs.TakenApart.{not-got}
+use Rattle.index.proofs.Decimal.{first}
+use Rattle.index.proofs.ReadSets.{record-complete, record-sound, mark-sound, long-entry, parse-some, parse-sound, head-entry}
+use Rattle.index.proofs.TextOnce.{parse-wrong}
+use Rattle.index.proofs.ReadSteps.{and-false}
+
+-- ---- after a record
+more-wrong : (e : Entry) (r : List ℕ) (rest : List ℕ → Read (List Entry)) {s : List ℕ} → 0 < length r → readMark r ≡ wrong s
+    → readMore e r rest ≡ wrong s
+unfolding readMore readMark
+more-wrong e [] rest h m = absurd (omega arith)
+more-wrong e (b ∷ r) rest {s} h m = go (eqb b 59) refl
+  where
+    go : (t : Bool) → eqb b 59 ≡ t → cond (ltb (e .id) 1023 && eqb b 59) (andThen (rest r) (λ es s. got (e ∷ es) s)) (wrong (b ∷ r)) ≡ wrong s
+    go true q = absurd (not-got {a = b} {r = r} (sym m ∙ simp q))
+    go false q =
+        let n : _≡_ {A = Read ℕ} (wrong (b ∷ r)) (wrong s) = simp q at m in
+        let z : b ∷ r ≡ s = cc in
+        simp (q, and-false (ltb (e .id) 1023)) (ap wrong z)
+
+more-full : (e : Entry) (r : List ℕ) (rest : List ℕ → Read (List Entry)) → 0 < length r → 1023 ≤ e .id
+    → readMore e r rest ≡ wrong r
+unfolding readMore
+more-full e [] rest h m = absurd (omega arith)
+more-full e (b ∷ r) rest h m = simp (le-ltb (e .id) 1023 m)
+
+more-next : (e : Entry) (r : List ℕ) (rest : List ℕ → Read (List Entry)) {m : ℕ} {s : List ℕ} → e .id < 1023 → readMark r ≡ got m s
+    → readMore e r rest ≡ andThen (rest s) (λ es u. got (e ∷ es) u)
+unfolding readMore
+more-next e r rest {m} {s} l h = rw (mark-sound r h) (simp (lt-ltb (e .id) 1023 l))
+
+records-step : (kind : Kind) (least : ℕ) (t : List ℕ) (g f : ℕ) → g ≡ suc f → (e : Entry) (r : List ℕ) → readRecord kind least t ≡ got e r
+    → readRecords g kind least t ≡ readMore e r (λ s. readRecords f kind (e .id + 1) s)
+unfolding readRecords
+records-step kind least t g f q e r h = ap (λ (x : ℕ). readRecords x kind least t) q ∙ simp h
+
+-- ---- what is read, after the records that were read before
+abbrev joined : List Entry → Read (List Entry) → Read (List Entry)
+joined es x = andThen x (λ fs r. got (es ++ fs) r)
+
+joined-none : (x : Read (List Entry)) → x ≡ joined [] x
+joined-none (got es r) = refl
+joined-none (wrong s) = refl
+
+joined-more : (es : List Entry) (e : Entry) (x : Read (List Entry))
+    → joined es (andThen x (λ fs r. got (e ∷ fs) r)) ≡ joined (es ++ (e ∷ [])) x
+joined-more es e (got fs r) = ap (λ (l : List Entry). got l r) (sym (append-assoc es (e ∷ []) fs))
+joined-more es e (wrong s) = refl
+
+-- The text is of no set.
+abbrev pub Refused : Kind → List ℕ → Type 0
+Refused kind text = (es : List Entry) → Writes kind es text → ⊥
+
+-- What holds as a record is to be read at a place: n records were read before it.
+pub record Turn (text : List ℕ) (kind : Kind) (at least n : ℕ) : Type 0 where
+  pub fuel : ℕ
+  pub es : List Entry
+  pub size : length es ≡ n
+  pub small : least < 1024
+  pub enough : 1024 ≤ fuel + least
+  pub says : parse kind text ≡ joined es (readRecords fuel kind least (drop at text))
+  pub room : n + (length text - at) ≤ length text
+
+pub no-text : (text : List ℕ) (kind : Kind) → length text ≡ 0 → (es : List Entry) × Writes kind es text × (length es ≡ 0)
+unfolding parse
+no-text [] kind h = ([], parse-sound kind [] refl, refl)
+no-text (b ∷ t) kind h = absurd (omega arith)
+
+module _ (text : List ℕ) (kind : Kind) where
+  pub turn-first : 0 < length text → Turn text kind 0 0 0
+  turn-first h =
+      record {
+        fuel = 1024;
+        es = [];
+        size = refl;
+        small = omega arith;
+        enough = omega arith;
+        says = parse-some kind text h ∙ joined-none (readRecords 1024 kind 0 text);
+        room = omega arith;
+      }
+
+  module _ (at least n : ℕ) (t : Turn text kind at least n) where
+    -- the fuel that is left
+    left : (f : ℕ) × (t .fuel ≡ suc f)
+    left = go (t .fuel) refl
+      where
+        go : (g : ℕ) → t .fuel ≡ g → (f : ℕ) × (t .fuel ≡ suc f)
+        go ℕ.zero q = absurd (omega (arith, t .small, t .enough))
+        go (suc f) q = (f, q)
+
+    records-wrong : (g f : ℕ) → g ≡ suc f → (s : List ℕ) → readRecord kind least (drop at text) ≡ wrong s
+        → readRecords g kind least (drop at text) ≡ wrong s
+    unfolding readRecords
+    records-wrong g f q s e = ap (λ (x : ℕ). readRecords x kind least (drop at text)) q ∙ simp e
+
+    pub turn-wrong : (s : List ℕ) → readRecord kind least (drop at text) ≡ wrong s → Refused kind text
+    turn-wrong s e = parse-wrong kind text (t .says ∙ ap (joined (t .es)) (records-wrong (t .fuel) (left .0) (left .1) s e))
+
+    module _ (e : Entry) (at′ : ℕ) (h : readRecord kind least (drop at text) ≡ got e (drop at′ text)) where
+      pub shorter : length text - at′ < length text - at
+      shorter =
+          let s = record-sound kind least (drop at text) h in
+          let l : length (drop at text) ≡ length (entryText e) + length (drop at′ text) =
+          ap length (s .text) ∙ length-append (entryText e) (drop at′ text) in
+          omega (arith, long-entry e, length-drop at text, length-drop at′ text)
+
+      step : parse kind text
+          ≡ joined (t .es) (readMore e (drop at′ text) (λ s. readRecords (left .0) kind (e .id + 1) s))
+      step = t .says ∙ ap (joined (t .es)) (records-step kind least (drop at text) (t .fuel) (left .0) (left .1) e _ h)
+
+      pub turn-last : length text ≤ at′ → (es : List Entry) × Writes kind es text × (length es ≡ n + 1)
+      unfolding readMore
+      turn-last k =
+          let p : parse kind text ≡ got (t .es ++ (e ∷ [])) [] = step ∙ simp (drop-of-length-le text k) in
+          (t .es ++ (e ∷ []), parse-sound kind text p, omega (arith, length-append (t .es) (e ∷ []), t .size))
+
+      pub turn-no-mark : (s : List ℕ) → at′ < length text → readMark (drop at′ text) ≡ wrong s → Refused kind text
+      turn-no-mark s k m =
+          parse-wrong kind text (step ∙ ap (joined (t .es)) (more-wrong e (drop at′ text) _ (omega (arith, length-drop at′ text)) m))
+
+      pub turn-full : at′ < length text → e .id ≡ 1023 → Refused kind text
+      turn-full k m =
+          parse-wrong kind text (step ∙ ap (joined (t .es)) (more-full e (drop at′ text) _ (omega (arith, length-drop at′ text)) (omega arith)))
+
+      pub turn-next : (m at″ : ℕ) → (e .id ≡ 1023 → ⊥) → readMark (drop at′ text) ≡ got m (drop at″ text)
+          → Turn text kind at″ (e .id + 1) (n + 1) × (length text - at″ < length text - at)
+      turn-next m at″ o k =
+          let s = record-sound kind least (drop at text) h in
+          let n : e .id < 1023 = omega (arith, s .entry .named) in
+          let q : suc (length (drop at″ text)) ≡ length (drop at′ text) = ap length (sym (mark-sound (drop at′ text) k)) in
+          let l : length text - at″ < length text - at = omega (arith, shorter, length-drop at′ text, length-drop at″ text) in (
+            record {
+              fuel = left .0;
+              es = t .es ++ (e ∷ []);
+              size = omega (arith, length-append (t .es) (e ∷ []), t .size);
+              small = omega arith;
+              enough = omega (arith, t .enough, left .1, s .above);
+              says = step ∙ ap (joined (t .es)) (more-next e (drop at′ text) _ n k) ∙ joined-more (t .es) e (readRecords (left .0) kind (e .id + 1) (drop at″ text));
+              room = omega (arith, t .room);
+            },
+            l,
+          )
+
+-- ---- the place of a piece
+pub found-right : (text s : List ℕ) (p : Piece) (n : ℕ) (c : Cursor) → p ≡ Found n c → seen text p ≡ wrong s → ⊥
+found-right text s p n c e h = not-got (sym h ∙ ap (seen text) e)
+
+pub wrong-there : (text s : List ℕ) (p : Piece) (c d : Cursor) → p ≡ Wrong c → d ≡ c → seen text p ≡ wrong s
+    → length s ≡ length text - d .at
+wrong-there text s p c d e q h =
+    let z : _≡_ {A = Read ℕ} (wrong s) (wrong (drop (c .at) text)) = sym h ∙ ap (seen text) e in
+    let y : s ≡ drop (c .at) text = cc in
+    ap length y ∙ length-drop (c .at) text ∙ ap (λ (x : Cursor). length text - x .at) (sym q)
+
+-- ---- a text that is known to be of a set
+first-more : (es : List Entry) → first (more es) ≡ 59
+first-more [] = refl
+first-more (e ∷ es) = refl
+
+module _ (kind : Kind) (e : Entry) (es : List Entry) (h : IsSet kind (e ∷ es)) (t : List ℕ) where
+  pub known-record : t ≡ entryText e ++ more es → readRecord kind 0 t ≡ got e (more es)
+  known-record q = rw q (record-complete kind 0 e (more es) (head-entry h) (omega arith) (first-more es))
+
+  pub known-first : (begun : Bool) → begun ≡ false → t ≡ rest begun (e ∷ es) → readRecord kind 0 t ≡ got e (more es)
+  known-first begun b q =
+      known-record (q ∙ ap (λ (x : Bool). rest x (e ∷ es)) b ∙ rest-next false e es)
+
+  pub known-mark : (begun : Bool) → begun ≡ true → t ≡ rest begun (e ∷ es) → t ≡ 59 ∷ (entryText e ++ more es)
+  known-mark begun b q = q ∙ ap (λ (x : Bool). rest x (e ∷ es)) b
+
+pub mark-there : (t s : List ℕ) → t ≡ 59 ∷ s → readMark t ≡ got 59 s
+unfolding readMark
+mark-there t s q = rw q

@@ -1,0 +1,46 @@
+-- A record comes, where there is room.
+use native.Mathlib.Omega.{arith}
+use borrow.Author.Needs.{needs}
+use Rattle.index.specs.Message.{Half}
+use Rattle.index.specs.Edits.{half}
+use Rattle.index.proofs.Records.{gap-in}
+use Rattle.index.proofs.Steps.{add-no-room, added-inserted, opens-none}
+use Rattle.index.proofs.edits.insert_at.Statement.{statement}
+use Rattle.index.proofs.edits.insert_at.Tie as tie
+
+abbrev h : tie.Start → Half
+h c = half (c .args .kind) (c .args .x) (c .args .y) (c .args .mask)
+
+returns : tie.Need-returns
+returns c = add-no-room (h (c .before .before .before .before)) (c .before .before .before .before .pre .1) (omega (arith, c .before .before .before .before .pre .0 .good .end-offset))
+
+splice-requires : tie.Need-splice-requires
+splice-requires c κs = opens-none (c .before .before .before .before .before .pre .0) (c .before .before .before .before .before .pre .1) (omega (arith, c .before .before .before .before .before .pre .0 .good .end-offset))
+
+put-record-requires : tie.Need-put-record-requires
+put-record-requires c κs = (
+  omega
+      (arith, gap-in (c .before .before .before .before .before .before .before .before .before .args .kind) (c .before .before .before .before .before .before .before .before .before .args .b .now) (c .before .before .before .before .before .before .before .before .before .args .i) (c .before .before .before .before .before .before .before .before .before .pre .1 .high), c .before .before .before .before .before .before .before .before .before .pre .0 .good .end-offset, c .before .before .before .splice .ensures .same-length),
+  search needs,
+  search needs,
+)
+
+returns-2 : tie.Need-returns-2
+returns-2 c =
+    added-inserted (h (c .before .before .before .before .before .before .before .before .before .before .before .before)) (c .before .before .before .before .before .before .before .before .before .before .before .before .pre .0) (λ t. omega (arith, c .slice-known3 .given t)) (c .before .before .before .before .before .before .before .before .before .before .before .before .pre .1)
+    (omega (arith, c .before .before .before .before .before .before .before .before .before .before .before .before .pre .0 .good .end-offset))
+    (c .before .before .before .before .before .before .splice .ensures)
+    (c .before .before .put-record .ensures)
+
+pub insert-at-spec : {M : Type 1} → statement M
+insert-at-spec =
+    tie.close
+    (tie.spec
+    (λ c κs. search needs)
+    (λ c. search needs)
+    (λ c. search needs)
+    returns
+    splice-requires
+    put-record-requires
+    (λ c. search needs)
+    returns-2)

@@ -1,0 +1,36 @@
+-- A half goes down in the record that is there.
+use mathlib.Core.Path.{subst}
+use borrow.Author.Needs.{needs}
+use Rattle.index.specs.Places.{At, Gap}
+use Rattle.index.specs.Edits.{half, Finds}
+use Rattle.index.proofs.Steps.{take-missing, taken-not}
+use Rattle.index.proofs.edits.take_away.Statement.{statement}
+use Rattle.index.proofs.edits.take_away.Tie as tie
+
+there : (c : tie.After-known-told) → At (c .before .before .before .before .before .before .args .b .now) (c .before .before .before .before .before .before .args .kind) (c .before .before .before .before .before .before .args .x) (c .before .before .before .before .before .before .args .y) (c .before .i .given .0 .0)
+there c = subst (Finds (c .before .before .before .before .before .before .args .b .now) (c .before .before .before .before .before .before .args .kind) (c .before .before .before .before .before .before .args .x) (c .before .before .before .before .before .before .args .y)) (c .before .i .given .1) (c .before .before .before .find .ensures)
+
+missing : (c : tie.After-enum-told) → Gap (c .before .before .before .before .before .args .b .now) (c .before .before .before .before .before .args .kind) (c .before .before .before .before .before .args .x) (c .before .before .before .before .before .args .y) (c .enum-told .given .0 .0)
+missing c = subst (Finds (c .before .before .before .before .before .args .b .now) (c .before .before .before .before .before .args .kind) (c .before .before .before .before .before .args .x) (c .before .before .before .before .before .args .y)) (c .enum-told .given .1) (c .before .before .find .ensures)
+
+take-at-requires : tie.Need-take-at-requires
+take-at-requires c κs = let a = there (c .before) in (rw (a .has-key, a .has-id) (c .before .before .before .before .before .before .before .pre), a .of)
+
+returns : tie.Need-returns
+returns c = let a = there (c .before .before .before .before) in rw (a .has-key, a .has-id) at (c .before .before .take-at .ensures)
+
+returns-2 : tie.Need-returns-2
+returns-2 c = taken-not (take-missing (half (c .before .before .before .before .before .args .kind) (c .before .before .before .before .before .args .x) (c .before .before .before .before .before .args .y) (c .before .before .before .before .before .args .mask)) (missing c) (c .before .before .before .before .before .pre .masked))
+
+pub take-away-spec : {M : Type 1} → statement M
+take-away-spec =
+    tie.close
+    (tie.spec
+    (λ c κs. search needs)
+    (λ c. search needs)
+    take-at-requires
+    (λ c. search needs)
+    (λ c. search needs)
+    returns
+    (λ c. search needs)
+    returns-2)

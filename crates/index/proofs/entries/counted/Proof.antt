@@ -1,0 +1,42 @@
+-- `index::entries::counted` meets its contract: a step of `readLetter` for each way.
+use Prim.Native.Nat.{_-_}
+use mathlib.Core.Path.{sym, _∙_}
+use denote.Ref.{now}
+use native.Mathlib.Omega.{arith}
+use Rattle.index.proofs.ReadSteps.{letter-end, letter-shut, letter-there, letter-none}
+use borrow.Author.Needs.{needs}
+use Rattle.index.proofs.entries.counted.Statement.{statement}
+use Rattle.index.proofs.entries.counted.Tie as tie
+
+returns : tie.Need-returns
+returns c =
+    let a = c .before .before .args in sym (letter-end (now (a .text)) (a .c .at) (a .may - a .k) _ (c .if1 .taken))
+
+returns-2 : tie.Need-returns-2
+returns-2 c =
+    let a = c .before .before .before .args in
+    sym (letter-shut (now (a .text)) (a .c .at) (a .may - a .k) _ (c .before .if1 .left) (omega (arith, c .if2 .taken)))
+
+returns-3 : tie.Need-returns-3
+returns-3 c =
+    let a = c .before .before .before .before .before .before .before .before .args in
+    c .count .ensures
+    ∙ sym (letter-there (now (a .text)) (a .c .at) (a .may - a .k) _ (c .before .before .before .before .before .before .if1 .left) (omega (arith, c .before .before .before .before .before .if2 .left)) (c .before .if3 .taken ∙ c .before .before .before .before .letter-at .ensures .1))
+
+returns-4 : tie.Need-returns-4
+returns-4 c =
+    let a = c .before .before .before .before .before .before .before .args in
+    sym (letter-none (now (a .text)) (a .c .at) (a .may - a .k) _ (c .before .before .before .before .before .if1 .left) (omega (arith, c .before .before .before .before .if2 .left)) (λ e. c .if3 .left (e ∙ sym (c .before .before .before .letter-at .ensures .1))))
+
+pub counted-spec : {M : Type 1} → statement M
+counted-spec =
+    tie.close
+    (tie.spec
+    returns
+    returns-2
+    (λ c κs. search needs)
+    (λ c. search needs)
+    (λ c. search needs)
+    (λ c κs. search needs)
+    returns-3
+    returns-4)

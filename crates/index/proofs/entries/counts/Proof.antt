@@ -1,0 +1,81 @@
+-- `index::entries::counts` meets its contract. The loop: what the whole reading finds is what reading on from letter k finds, after the counts in `out`.
+use Prim.Native.Nat.{ℕ, _≤_, _-_}
+use mathlib.Core.Path.{_≡_, sym, ap, _∙_}
+use denote.Ref.{now}
+use native.Mathlib.Omega.{arith}
+use Rattle.index.specs.Pieces.{seen, seenCounts}
+use lib.ListN.{length, drop, length-set}
+use mathlib.Core.List.{List}
+use Rattle.index.specs.Letters.{letters}
+use Rattle.index.specs.Reading.{readCounts}
+use Rattle.index.proofs.ReadSteps.{after, after-none, after-wrong, after-more, after-all}
+use borrow.Author.Needs.{needs}
+use Rattle.index.proofs.entries.counts.Statement.{statement}
+use Rattle.index.proofs.entries.counts.Tie as tie
+
+abbrev Inv-loop : tie.InvT-loop
+Inv-loop text out₀ may here₀ k₀ out here k =
+    (k ≤ 8) × (length out ≡ 8)
+    × (readCounts may letters (drop (here₀ .at) text) ≡ after out k (readCounts (may - k) (drop k letters) (drop (here .at) text)))
+
+abbrev μ-loop : tie.MeasureT-loop
+μ-loop text out₀ may here₀ k₀ out here k = 8 - k
+
+loop-holds : tie.Need-loop-holds Inv-loop μ-loop
+loop-holds c =
+    let a = c .before .before .args in
+    let t : List ℕ = drop (a .c .at) (now (a .text)) in
+    let m : ℕ = c .letters-of .result in
+    let z : m - 0 ≡ m = omega arith in (
+      omega arith,
+      c .before .before .pre,
+      after-none (now (a .out)) (readCounts m letters t) ∙ ap (λ (n : ℕ). after (now (a .out)) 0 (readCounts n letters t)) (sym z),
+    )
+
+returns : tie.Need-returns Inv-loop μ-loop
+returns c =
+    let a = c .before .before .before .before .before .before .before .args in
+    let l = c .before .before .before .before .loop in (
+      l .inv .1,
+      ap (λ p. seenCounts (now (a .text)) p (l .out)) (c .enum-told .given .1)
+          ∙ sym (l .inv .2 ∙ after-wrong (l .out) _ (l .k) (c .before .before .before .loop-test .taken) _ _ (sym (c .before .before .counted .ensures) ∙ ap (seen (now (a .text))) (c .enum-told .given .1)))
+          ∙ ap (λ (n : ℕ). readCounts n letters (drop (a .c .at) (now (a .text)))) (c .before .before .before .before .before .letters-of .ensures),
+    )
+
+loop-again : tie.Need-loop-again Inv-loop μ-loop
+loop-again c =
+    let a = c .before .before .before .before .before .before .before .before .args in
+    let l = c .before .before .before .before .before .loop in (
+      omega arith,
+      simp length-set (l .inv .1),
+      l .inv .2 ∙ after-more (l .out) _ (l .k) (c .before .before .before .before .loop-test .taken) _ _ _ (l .inv .1)
+          (sym (c .before .before .before .counted .ensures) ∙ ap (seen (now (a .text))) (c .before .piece .given .1)),
+    )
+
+returns-2 : tie.Need-returns-2 Inv-loop μ-loop
+returns-2 c =
+    let a = c .before .before .before .before .args in
+    let l = c .before .loop in (
+      l .inv .1,
+      sym (l .inv .2 ∙ after-all (l .out) _ (l .k) _ (l .inv .1) (omega arith))
+          ∙ ap (λ (n : ℕ). readCounts n letters (drop (a .c .at) (now (a .text)))) (c .before .before .letters-of .ensures),
+    )
+
+pub counts-spec : {M : Type 1} → statement M
+counts-spec =
+    tie.close
+    (tie.spec
+    Inv-loop
+    μ-loop
+    (λ c κs. search needs)
+    loop-holds
+    (λ c κs. search needs)
+    (λ c. search needs)
+    (λ c. search needs)
+    returns
+    (λ c. search needs)
+    (λ c. search needs)
+    (λ c. search needs)
+    (λ c. search needs)
+    loop-again
+    returns-2)

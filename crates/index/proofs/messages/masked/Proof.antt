@@ -1,0 +1,21 @@
+-- The mask of each half that is there.
+use borrow.Author.Needs.{needs}
+use Rattle.index.specs.Message.{Masked}
+use Rattle.index.proofs.Answer.{yes-not, no-not, says-same}
+use Rattle.index.proofs.Halves.{each-of, of-each}
+use Rattle.index.proofs.messages.masked.Statement.{statement}
+use Rattle.index.proofs.messages.masked.Tie as tie
+
+returns : tie.Need-returns
+returns c =
+    λ all. no-not (c .before .mask-good .result) (c .if1 .taken) (of-each (c .before .before .before .args .m .now) Masked (c .before .before .before .pre .some-half) all .0) (c .before .mask-good .ensures)
+
+returns-2 : tie.Need-returns-2
+returns-2 c =
+    let first = yes-not (c .before .before .mask-good .result) (c .before .if1 .left) (c .before .before .mask-good .ensures) in
+    says-same (c .mask-good2 .result) (λ second. each-of (c .before .before .before .before .args .m .now) Masked (c .before .before .before .before .pre .some-half) (first, second))
+    (λ all. of-each (c .before .before .before .before .args .m .now) Masked (c .before .before .before .before .pre .some-half) all .1)
+    (c .mask-good2 .ensures)
+
+pub masked-spec : {M : Type 1} → statement M
+masked-spec = tie.close (tie.spec (λ c κs. search needs) returns (λ c κs. search needs) returns-2)

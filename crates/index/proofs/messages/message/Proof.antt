@@ -1,0 +1,24 @@
+-- A message is refused by its tests, or carried out.
+use borrow.Author.Needs.{needs}
+use Rattle.index.specs.Message.{changes, Carried}
+use Rattle.index.specs.Calls.{messageNeeds, Message}
+use Rattle.index.proofs.Halves.{message-passed, message-tested}
+use Rattle.index.proofs.Firsts.{first-all, refuses}
+use Rattle.index.proofs.messages.message.Statement.{statement}
+use Rattle.index.proofs.messages.message.Tie as tie
+
+returns : tie.Need-returns
+unfolding Message
+returns c = refuses (λ n. (n, c .before .before .before .before .before .args .block .now)) (Carried (c .before .before .before .before .before .args .block .now) (changes (c .before .before .before .before .before .args .message .now)) (c .before .before .before .before .before .args .block .now)) (messageNeeds (c .before .before .before .before .before .args .block .now) (c .before .before .before .before .before .args .message .now)) (c .if1 .taken) (c .before .refused .ensures)
+
+carry-requires : tie.Need-carry-requires
+carry-requires c κs = message-tested (c .before .before .before .before .before .before .args .block .now) (c .before .before .before .before .before .before .args .message .now) (c .before .if1 .left) (c .before .before .refused .ensures)
+
+returns-2 : tie.Need-returns-2
+unfolding Message
+returns-2 c = first-all (λ n. (n, c .before .before .before .before .before .before .before .before .before .args .block .now)) _ _ (messageNeeds (c .before .before .before .before .before .before .before .before .before .args .block .now) (c .before .before .before .before .before .before .before .before .before .args .message .now)) (message-passed (c .before .before .before .before .before .before .before .before .before .args .block .now) (c .before .before .before .before .before .before .before .before .before .args .message .now) (c .before .before .before .before .if1 .left) (c .before .before .before .before .before .refused .ensures)) (c .before .before .carry .ensures)
+
+pub message-spec : {M : Type 1} → statement M
+message-spec =
+    tie.close
+    (tie.spec (λ c κs. search needs) (λ c. search needs) returns carry-requires (λ c. search needs) returns-2)

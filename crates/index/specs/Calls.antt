@@ -1,0 +1,84 @@
+-- 01, "Numbers a caller can get": the calls of this crate, each with its requirements in the order of their tests.
+use Prim.Native.Nat.{ℕ, _+_, _<_, _≤_}
+use mathlib.Core.Path.{_≡_}
+use mathlib.Core.List.{List, [], _∷_, _++_}
+use lib.ListN.{length, drop}
+use Rattle.index.specs.declared.Wrote.{Wrote}
+use Rattle.index.specs.declared.Wrote.the-variants as wrote
+use Rattle.index.specs.declared.Took.{Took}
+use Rattle.index.specs.declared.Took.the-variants as took
+use Rattle.index.specs.Numbers.{First, Each}
+use Rattle.index.specs.Block.{IsName, Sized, Good, records, room}
+use Rattle.index.specs.Message.{IsKind, kindOf, previous, new, WellFormed, Named, Masked, changes, Carried}
+use Rattle.index.specs.Text.{Entry, textOf, setOf, Writes, Replaced}
+
+-- 1: "block length not 16 to 40,976"; 2: "block not good".
+unfoldable pub blockNeeds : List ℕ → List (ℕ × Type 0)
+blockNeeds b = (1, Sized b) ∷ (2, Good b) ∷ []
+
+-- make: the number, and the block then. "It makes an empty index block", as long as it was.
+abbrev pub Made : List ℕ → (ℕ × List ℕ) → Type 0
+Made b o = (o .0 ≡ 0) × Good (o .1) × (length (o .1) ≡ length b) × (records (o .1) ≡ 0)
+
+unfoldable pub makeNeeds : List ℕ → List (ℕ × Type 0)
+makeNeeds b = (1, Sized b) ∷ []
+
+unfoldable pub Makes : List ℕ → (ℕ × List ℕ) → Type 0
+Makes b o = First (λ n. (n, b)) (makeNeeds b) (Made b) o
+
+-- message: the number, and the block then. 3: "message not 12 bytes, or kind, flags or an absent half wrong"; 4: "a name
+-- above 1023 in a present half"; 5: "a present half's mask 0, or above 15 for M or F"; then 6, 7 and 8 of its steps.
+unfoldable pub messageNeeds : List ℕ → List ℕ → List (ℕ × Type 0)
+messageNeeds b m =
+    blockNeeds b
+    ++ ((3, WellFormed m) ∷ (4, Each Named (previous m ++ new m)) ∷ (5, Each Masked (previous m ++ new m)) ∷ [])
+
+unfoldable pub Message : List ℕ → List ℕ → (ℕ × List ℕ) → Type 0
+Message b m o = First (λ n. (n, b)) (messageNeeds b m) (Carried b (changes m) b) o
+
+-- What write and read need first. 3: "kind not 1 to 3"; 4: "a name above 1023, given by the caller".
+unfoldable pub setNeeds : List ℕ → ℕ → ℕ → List (ℕ × Type 0)
+setNeeds b kind x = blockNeeds b ++ ((3, IsKind kind) ∷ (4, IsName x) ∷ [])
+
+-- write: the number, the length of the text, and the output buffer then. "An accepted write touches only the bytes of the
+-- text." 10: "text longer than the output buffer".
+abbrev pub Written : List ℕ → ℕ → ℕ → List ℕ → (ℕ × ℕ × List ℕ) → Type 0
+Written b kind x out o =
+    let t = textOf (setOf b (kindOf kind) x) in
+    o ≡ (0, length t, t ++ drop (length t) out)
+
+unfoldable pub writeNeeds : List ℕ → ℕ → ℕ → List ℕ → List (ℕ × Type 0)
+writeNeeds b kind x out = setNeeds b kind x ++ ((10, length (textOf (setOf b (kindOf kind) x)) ≤ length out) ∷ [])
+
+unfoldable pub WritesSet : List ℕ → ℕ → ℕ → List ℕ → (ℕ × ℕ × List ℕ) → Type 0
+WritesSet b kind x out o = First (λ n. (n, 0, out)) (writeNeeds b kind x out) (Written b kind x out) o
+
+-- read: the number, how many records the set has, and the block then. 9: "not the text of any set of that kind"; 8: "after
+-- removing the old set, the records do not fit". "read tests 9 before 8."
+abbrev pub Read : List ℕ → ℕ → ℕ → List ℕ → (ℕ × ℕ × List ℕ) → Type 0
+Read b kind x text o =
+    (es : List Entry) × Writes (kindOf kind) es text × (o .0 ≡ 0) × (o .1 ≡ length es)
+    × Replaced (kindOf kind) x es b (o .2)
+
+unfoldable pub readNeeds : List ℕ → ℕ → ℕ → List ℕ → List (ℕ × Type 0)
+readNeeds b kind x text =
+    setNeeds b kind x
+    ++ ((9, (es : List Entry) × Writes (kindOf kind) es text)
+    ∷ (
+      8,
+      (es : List Entry) → Writes (kindOf kind) es text
+          → records b + length es ≤ room b + length (setOf b (kindOf kind) x),
+    ) ∷ [])
+
+unfoldable pub ReadsSet : List ℕ → ℕ → ℕ → List ℕ → (ℕ × ℕ × List ℕ) → Type 0
+ReadsSet b kind x text o = First (λ n. (n, 0, b)) (readNeeds b kind x text) (Read b kind x text) o
+
+-- ---- what each case of an answer stands for: 01's number, and its value
+
+unfoldable pub Wrotes : List ℕ → ℕ → ℕ → List ℕ → Wrote → List ℕ → Type 0
+Wrotes b kind x out (wrote.Text n) out′ = WritesSet b kind x out (0, n, out′)
+Wrotes b kind x out (wrote.Refused n) out′ = (0 < n) × WritesSet b kind x out (n, 0, out′)
+
+unfoldable pub Tooks : List ℕ → ℕ → ℕ → List ℕ → Took → List ℕ → Type 0
+Tooks b kind x text (took.Set n) b′ = ReadsSet b kind x text (0, n, b′)
+Tooks b kind x text (took.Refused n) b′ = (0 < n) × ReadsSet b kind x text (n, 0, b′)

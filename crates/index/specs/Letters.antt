@@ -1,0 +1,25 @@
+-- 01, "Rights and letters". The letters are numbered in the order of the table: M 0, R 1, U 2, P 3, m 4, r 5, u 6, p 7. The
+-- four rights are the four capital letters.
+use Prim.Native.Nat.{ℕ, _/_, _%_, _^_}
+use mathlib.Core.Path.{_≡_}
+use mathlib.Core.List.{List, [], _∷_}
+use Rattle.index.specs.declared.Kind.{Kind}
+use Rattle.index.specs.declared.Kind.the-variants.{Membership, Permission, Filter}
+
+-- How many letters there are.
+abbrev pub letterCount : ℕ
+letterCount = 8
+
+-- "letter": the bytes of M R U P m r u p.
+unfoldable pub letters : List ℕ
+letters = 77 ∷ 82 ∷ 85 ∷ 80 ∷ 109 ∷ 114 ∷ 117 ∷ 112 ∷ []
+
+-- "mask": 1, 2, 4, 8, 16, 32, 64, 128, which is 2 ^ k for letter k. Letter k is in the mask.
+abbrev pub In : ℕ → ℕ → Type 0
+In k mask = mask / 2 ^ k % 2 ≡ 1
+
+-- "M and F records have zero in the four small-letter counts": a record of the kind may have the letters below this one.
+unfoldable pub lettersOf : Kind → ℕ
+lettersOf Membership = 4
+lettersOf Permission = letterCount
+lettersOf Filter = 4

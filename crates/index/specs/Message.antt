@@ -1,0 +1,115 @@
+-- 01, "The message", and its steps. A message is the list of its bytes.
+use Prim.Native.Nat.{ℕ, _+_, _<_, _≤_, _/_, _%_, _^_}
+use mathlib.Core.Path.{_≡_}
+use mathlib.Core.Bool.{cond, _&&_}
+use mathlib.Core.List.{List, [], _∷_, _++_, map}
+use mathlib.Core.Logic.{_⊎_}
+use lib.ListN.{length, getD}
+use lib.Dec.{eqb}
+use Rattle.index.specs.declared.Kind.{Kind}
+use Rattle.index.specs.declared.Kind.the-variants.{Membership, Permission, Filter}
+use Rattle.index.specs.Letters.{letterCount, lettersOf, In}
+use Rattle.index.specs.Numbers.{First}
+use Rattle.index.specs.Block.{IsName, number, Good, count, records, room}
+
+-- "kind (1 M, 2 P, 3 F)"
+unfoldable pub IsKind : ℕ → Type 0
+IsKind n = (1 ≤ n) × (n ≤ 3)
+
+unfoldable pub kindOf : ℕ → Kind
+kindOf n = cond (eqb n 1) Membership (cond (eqb n 2) Permission Filter)
+
+unfoldable pub kindNumber : Kind → ℕ
+kindNumber Membership = 1
+kindNumber Permission = 2
+kindNumber Filter = 3
+
+-- A half, with the kind of its message: a record, and the letters in it that go down or up by one.
+pub record Half : Type 0 where
+  pub kind : Kind
+  pub key : ℕ
+  pub id : ℕ
+  pub mask : ℕ
+
+-- "12 bytes: kind, flags, then the previous and the new half, 5 bytes each: key (2), id (2), mask (1)"
+unfoldable pub flags : List ℕ → ℕ
+flags m = getD m 1 0
+
+unfoldable pub halfAt : List ℕ → ℕ → Half
+halfAt m i = record { kind = kindOf (getD m 0 0); key = number m i; id = number m (i + 2); mask = getD m (i + 4) 0 }
+
+-- "flags (1 previous present, 2 new present, 3 both)": the previous half or none, the new half or none.
+unfoldable pub previous : List ℕ → List Half
+previous m = cond (eqb (flags m % 2) 1) (halfAt m 2 ∷ []) []
+
+unfoldable pub new : List ℕ → List Half
+new m = cond (eqb (flags m / 2 % 2) 1) (halfAt m 7 ∷ []) []
+
+-- "An absent half is five zero bytes."
+unfoldable pub Blank : List ℕ → ℕ → Type 0
+Blank m i = (j : ℕ) → i ≤ j → j < i + 5 → getD m j 0 ≡ 0
+
+pub record WellFormed (m : List ℕ) : Type 0 where
+  pub twelve : length m ≡ 12
+  pub kind : IsKind (getD m 0 0)
+  pub some-half : (1 ≤ flags m) × (flags m ≤ 3)
+  pub no-previous : flags m ≡ 2 → Blank m 2
+  pub no-new : flags m ≡ 1 → Blank m 7
+
+-- "a name above 1023"; "mask 0, or above 15 for M or F"
+unfoldable pub Named : Half → Type 0
+Named h = IsName (h .key) × IsName (h .id)
+
+unfoldable pub Masked : Half → Type 0
+Masked h = (0 < h .mask) × (h .mask < 2 ^ lettersOf (h .kind))
+
+-- ---- the steps
+
+pub data Change : Type 0 where
+  take : Half → Change
+  add : Half → Change
+
+-- "first take away the previous half, then add the new half"
+unfoldable pub changes : List ℕ → List Change
+changes m = map take (previous m) ++ map add (new m)
+
+-- "each letter in its mask": 1 where the half has letter k of this record, else 0.
+unfoldable pub moves : Half → Kind → ℕ → ℕ → ℕ → ℕ
+moves h kind x y k =
+    cond (eqb (kindNumber (h .kind)) (kindNumber kind) && (eqb (h .key) x && eqb (h .id) y)) (h .mask / 2 ^ k % 2) 0
+
+-- "each letter in its mask goes down by one"
+unfoldable pub taken : Change → Kind → ℕ → ℕ → ℕ → ℕ
+taken (take h) kind x y k = moves h kind x y k
+taken (add h) kind x y k = 0
+
+-- "each letter goes up by one"
+unfoldable pub added : Change → Kind → ℕ → ℕ → ℕ → ℕ
+added (take h) kind x y k = 0
+added (add h) kind x y k = moves h kind x y k
+
+-- The block b becomes b′, a good block again, so that "a record whose counts are all zero is removed" and a new one stands
+-- "in its place". There is one such block only (proofs/Canonical).
+pub record Changed (c : Change) (b b′ : List ℕ) : Type 0 where
+  pub good : Good b′
+  pub same-length : length b′ ≡ length b
+  pub counts : (kind : Kind) (x y k : ℕ) → k < letterCount
+      → count b′ kind x y k + taken c kind x y k ≡ count b kind x y k + added c kind x y k
+
+-- Letter k of the half's record in the block.
+unfoldable pub standing : List ℕ → Half → ℕ → ℕ
+standing b h k = count b (h .kind) (h .key) (h .id) k
+
+-- 6: "a letter of the previous half has count 0 or no record"; 7: "a letter to add stands at 65,535"; 8: "the records do not
+-- fit", where the record is not there already.
+unfoldable pub changeNeeds : Change → List ℕ → List (ℕ × Type 0)
+changeNeeds (take h) b = (6, (k : ℕ) → k < letterCount → In k (h .mask) → 0 < standing b h k) ∷ []
+changeNeeds (add h) b =
+    (7, (k : ℕ) → k < letterCount → In k (h .mask) → standing b h k < 65535)
+    ∷ (8, ((k : ℕ) × (k < letterCount) × (0 < standing b h k)) ⊎ (records b < room b)) ∷ []
+
+-- The changes, one after the other, on the block b. A refusal gives back b₀, the block as it came: "no lent byte changes".
+unfoldable pub Carried : List ℕ → List Change → List ℕ → (ℕ × List ℕ) → Type 0
+Carried b₀ [] b o = o ≡ (0, b)
+Carried b₀ (c ∷ cs) b o =
+    First (λ n. (n, b₀)) (changeNeeds c b) (λ p. (b₁ : List ℕ) × Changed c b b₁ × Carried b₀ cs b₁ p) o

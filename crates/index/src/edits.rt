@@ -1,0 +1,90 @@
+// One half is taken away or put in.
+
+use crate::HEADER;
+use crate::Kind;
+use crate::RECORD;
+use crate::counts::allows;
+use crate::counts::left_over;
+use crate::counts::recount;
+use crate::moves::clear;
+use crate::moves::splice;
+use crate::numbers::number_at;
+use crate::numbers::put_number;
+use crate::places::Found;
+use crate::places::find;
+ghost use Prim.Native.Nat.{_+_, _≤_};
+ghost use lib.ListN.{length};
+ghost use Rattle.index.specs.Block.{IsName, place, key, id, Of};
+ghost use Rattle.index.specs.Message.Change.{add};
+ghost use Rattle.index.specs.Places.{Gap};
+ghost use Rattle.index.specs.Edits.{half, Ready, Written, Step, TakenAway};
+
+// Record i is written: key, id, and each letter of the mask once.
+fn put_record(b: &mut [u8], i: usize, x: usize, y: usize, mask: usize)
+    requires { ⌜ (place (i + 1) ≤ length (now b)) × IsName x × IsName y ⌝ }
+    ensures { λ _. ⌜ Written i x y mask (now (b .entry)) (now (b .exit)) ⌝ }
+{
+    let at = HEADER + RECORD * i;
+    put_number(b, at, x);
+    put_number(b, at + 2, y);
+    clear(b, at + 4, at + RECORD);
+    recount(b, i, 0, mask);
+}
+
+// Each letter of the mask goes down by one in record i, of the kind, and a record with no count left is removed. It is 6
+// where a letter has count 0.
+fn take_at(b: &mut [u8], kind: Kind, i: usize, mask: usize) -> u8
+    requires { ⌜ Ready (half kind (key (now b) i) (id (now b) i) mask) (now b) × Of (now b) kind i ⌝ }
+    ensures { λ r. ⌜ TakenAway (half kind (key (now (b .entry)) i) (id (now (b .entry)) i) mask) (now (b .entry)) r (now (b .exit)) ⌝ }
+{
+    if !allows(b, i, mask, 0) {
+        return 6;
+    }
+    if left_over(b, i, mask) {
+        recount(b, i, mask, 0);
+        return 0;
+    }
+    splice(b, kind, i, 1, 0);
+    0
+}
+
+// Take the half away; 6 where a letter of it has count 0 or no record.
+pub fn take_away(b: &mut [u8], kind: Kind, x: usize, y: usize, mask: usize) -> u8
+    requires { ⌜ Ready (half kind x y mask) (now b) ⌝ }
+    ensures { λ r. ⌜ TakenAway (half kind x y mask) (now (b .entry)) r (now (b .exit)) ⌝ }
+{
+    match find(b, kind, x, y) {
+        Found::At(i) => take_at(b, kind, i, mask),
+        Found::Missing(_) => 6,
+    }
+}
+
+// The record of the half is inserted as number i; 8 where there is no room.
+fn insert_at(b: &mut [u8], kind: Kind, i: usize, x: usize, y: usize, mask: usize) -> u8
+    requires { ⌜ Ready (half kind x y mask) (now b) × Gap (now b) kind x y i ⌝ }
+    ensures { λ r. ⌜ Step (add (half kind x y mask)) (now (b .entry)) r (now (b .exit)) ⌝ }
+{
+    if b.len() < number_at(b, 14) + RECORD {
+        return 8;
+    }
+    splice(b, kind, i, 0, 1);
+    put_record(b, i, x, y, mask);
+    0
+}
+
+// Put the half in; 7 where a letter of it stands at 65,535, 8 where its record is missing and there is no room.
+pub fn put_in(b: &mut [u8], kind: Kind, x: usize, y: usize, mask: usize) -> u8
+    requires { ⌜ Ready (half kind x y mask) (now b) ⌝ }
+    ensures { λ r. ⌜ Step (add (half kind x y mask)) (now (b .entry)) r (now (b .exit)) ⌝ }
+{
+    match find(b, kind, x, y) {
+        Found::At(i) => {
+            if !allows(b, i, 0, mask) {
+                return 7;
+            }
+            recount(b, i, 0, mask);
+            0
+        }
+        Found::Missing(i) => insert_at(b, kind, i, x, y, mask),
+    }
+}

@@ -1,0 +1,135 @@
+// Readers of the records of a set's text.
+
+use crate::GREATEST_NAME;
+use crate::Kind;
+use crate::LETTER_COUNT;
+use crate::letters::letter_at;
+use crate::letters::letters_of;
+use crate::reading::Cursor;
+use crate::reading::Piece;
+use crate::reading::count;
+use crate::reading::mark;
+use crate::reading::number;
+ghost use mathlib.Core.Path.{_≡_};
+ghost use Prim.Native.Nat.{_-_, _<_};
+ghost use mathlib.Core.Bool.{true};
+ghost use mathlib.Core.List.{List, _∷_};
+ghost use lib.Dec.{ltb};
+ghost use lib.ListN.{length, getD, drop};
+ghost use Rattle.index.specs.Block.{IsName};
+ghost use Rattle.index.specs.Letters.{letterCount, letters, lettersOf};
+ghost use Rattle.index.specs.Text.{Entry, IsSet};
+ghost use Rattle.index.specs.Reading.{readLetter, readCounts, total, readRecord};
+ghost use Rattle.index.specs.Reading.Read.{got};
+ghost use Rattle.index.specs.Pieces.{seen, seenCounts, seenEntry, rest};
+
+// The count of letter k at the cursor, of which the first `may` may stand there: 0 where the letter does not.
+fn counted(text: &[u8], c: Cursor, may: usize, k: usize) -> Piece
+    requires { ⌜ k < letterCount ⌝ }
+    ensures { λ r. ⌜ seen (now (text .entry)) r ≡ readLetter (ltb 0 (may - k)) (getD letters k 0) (drop (c .at) (now (text .entry))) ⌝ }
+{
+    let at = c.at;
+    if text.len() <= at {
+        return Piece::Found(0, c);
+    }
+    if may <= k {
+        return Piece::Found(0, c);
+    }
+    let l = letter_at(k);
+    if text[at] == l.byte {
+        count(text, Cursor { at: at + 1 })
+    } else {
+        Piece::Found(0, c)
+    }
+}
+
+// The eight counts at the cursor, into `out`; the answer's number is 8.
+fn counts(text: &[u8], c: Cursor, kind: Kind, out: &mut [usize; LETTER_COUNT]) -> Piece
+    requires { ⌜ length (now out) ≡ letterCount ⌝ }
+    ensures { λ r. ⌜ length (now (out .exit)) ≡ letterCount ⌝ }
+    ensures { λ r. ⌜ seenCounts (now (text .entry)) r (now (out .exit)) ≡ readCounts (lettersOf kind) letters (drop (c .at) (now (text .entry))) ⌝ }
+{
+    let may = letters_of(kind);
+    let mut here = c;
+    let mut k = 0;
+    while k < LETTER_COUNT {
+        let piece = counted(text, here, may, k);
+        let Piece::Found(n, next) = piece else {
+            return piece;
+        };
+        out[k] = n;
+        here = next;
+        k += 1;
+    }
+    Piece::Found(LETTER_COUNT, here)
+}
+
+// Some letter is counted.
+fn is_counted(counts: &[usize; LETTER_COUNT]) -> bool
+    requires { ⌜ length (now counts) ≡ letterCount ⌝ }
+    ensures { λ r. ⌜ r ≡ ltb 0 (total (now (counts .entry))) ⌝ }
+{
+    let mut k = 0;
+    while k < LETTER_COUNT {
+        if 0 < counts[k] {
+            return true;
+        }
+        k += 1;
+    }
+    false
+}
+
+// The record at the cursor, whose id is at least `least`: its counts go into `out`, and the answer's number is its id.
+pub fn read_record(
+    text: &[u8],
+    c: Cursor,
+    kind: Kind,
+    least: usize,
+    out: &mut [usize; LETTER_COUNT],
+) -> Piece
+    requires { ⌜ (length (now out) ≡ letterCount) × IsName least ⌝ }
+    ensures { λ r. ⌜ length (now (out .exit)) ≡ letterCount ⌝ }
+    ensures { λ r. ⌜ seenEntry (now (text .entry)) r (now (out .exit)) ≡ readRecord kind least (drop (c .at) (now (text .entry))) ⌝ }
+{
+    let id = number(text, c, least, GREATEST_NAME);
+    let Piece::Found(name, after) = id else {
+        return id;
+    };
+    let sign = mark(text, after);
+    let Piece::Found(_, start) = sign else {
+        return sign;
+    };
+    let pieces = counts(text, start, kind, out);
+    let Piece::Found(_, next) = pieces else {
+        return pieces;
+    };
+    if is_counted(out) {
+        Piece::Found(name, next)
+    } else {
+        Piece::Wrong(next)
+    }
+}
+
+// The next record of a text that is of a set, with the `;` before it where the text has begun: its counts go into
+// `out`, and the answer's number is its id.
+pub fn take_record(
+    text: &[u8],
+    c: Cursor,
+    kind: Kind,
+    begun: bool,
+    out: &mut [usize; LETTER_COUNT],
+) -> Piece
+    requires { ⌜ length (now out) ≡ letterCount ⌝ }
+    ensures { λ r. ⌜ length (now (out .exit)) ≡ letterCount ⌝ }
+    ensures { λ r. ⌜ ((e : Entry) (es : List Entry) → IsSet kind (e ∷ es) → drop (c .at) (now (text .entry)) ≡ rest begun (e ∷ es)
+        → seenEntry (now (text .entry)) r (now (out .exit)) ≡ got e (rest true es)) ⌝ }
+{
+    if begun {
+        let sign = mark(text, c);
+        let Piece::Found(_, start) = sign else {
+            return sign;
+        };
+        return read_record(text, start, kind, 0, out);
+    }
+    read_record(text, c, kind, 0, out)
+}

@@ -1,0 +1,68 @@
+// The table of the letters, used by writer, reader and net mask.
+
+use crate::Kind;
+use crate::LETTER_COUNT;
+ghost use mathlib.Core.Path.{_≡_};
+ghost use Prim.Native.Nat.{_<_, _^_};
+ghost use lib.ListN.{getD};
+ghost use Rattle.index.specs.Letters.{letterCount, letters, lettersOf};
+
+// A letter of a set's text, with the mask of what it stands for.
+pub struct Letter {
+    pub mask: u8,
+    pub byte: u8,
+}
+
+pub const LETTERS: [Letter; 8] = [
+    Letter {
+        mask: 1,
+        byte: b'M',
+    },
+    Letter {
+        mask: 2,
+        byte: b'R',
+    },
+    Letter {
+        mask: 4,
+        byte: b'U',
+    },
+    Letter {
+        mask: 8,
+        byte: b'P',
+    },
+    Letter {
+        mask: 16,
+        byte: b'm',
+    },
+    Letter {
+        mask: 32,
+        byte: b'r',
+    },
+    Letter {
+        mask: 64,
+        byte: b'u',
+    },
+    Letter {
+        mask: 128,
+        byte: b'p',
+    },
+];
+
+// Letter k, in letter order.
+pub fn letter_at(k: usize) -> Letter
+    requires { ⌜ k < letterCount ⌝ }
+    ensures { λ r. ⌜ (r .mask ≡ 2 ^ k) × (r .byte ≡ getD letters k 0) ⌝ }
+{
+    LETTERS[k]
+}
+
+// How many of the letters a record of the kind may have.
+pub fn letters_of(kind: Kind) -> usize
+    ensures { λ r. ⌜ r ≡ lettersOf kind ⌝ }
+{
+    match kind {
+        Kind::Membership => 4,
+        Kind::Permission => LETTER_COUNT,
+        Kind::Filter => 4,
+    }
+}

@@ -1,0 +1,70 @@
+// The index block: what it holds, the messages that change it, and its sets as text.
+
+mod checks;
+mod counts;
+mod doors;
+mod edits;
+mod entries;
+mod letters;
+mod making;
+mod messages;
+mod moves;
+mod numbers;
+mod places;
+mod reading;
+mod run;
+mod scanning;
+mod sets;
+mod taking;
+mod writing;
+
+pub use crate::checks::tested;
+pub use crate::doors::count_of;
+pub use crate::doors::id_of;
+pub use crate::doors::key_of;
+pub use crate::doors::net_of;
+pub use crate::doors::size_of;
+pub use crate::making::make;
+pub use crate::messages::message;
+pub use crate::sets::read_set;
+pub use crate::sets::write_set;
+
+// How many bytes the header has, and a record.
+pub const HEADER: usize = 16;
+
+pub const RECORD: usize = 20;
+
+// How many letters there are.
+pub const LETTER_COUNT: usize = 8;
+
+// Names are the numbers below this one.
+pub const NAMES: usize = 1024;
+
+// The greatest name.
+pub const GREATEST_NAME: usize = 1023;
+
+// The greatest count.
+pub const GREATEST_COUNT: usize = 65535;
+
+// The greatest length of a block.
+pub const GREATEST: usize = 40976;
+
+// What a record says. Membership: the key is a member of the group id. Permission: id is granted or denied rights on
+// key. Filter: the filter named id bounds key.
+pub enum Kind {
+    Membership,
+    Permission,
+    Filter,
+}
+
+// What came of writing a set: its text, so many bytes long, or the number of the refusal.
+pub enum Wrote {
+    Text(usize),
+    Refused(u8),
+}
+
+// What came of reading a set: so many records, or the number of the refusal.
+pub enum Took {
+    Set(usize),
+    Refused(u8),
+}

@@ -1,0 +1,58 @@
+// 16-bit numbers in a block, low byte first.
+
+use crate::HEADER;
+use crate::RECORD;
+ghost use Prim.Native.Nat.{_+_, _*_, _<_, _≤_};
+ghost use lib.ListN.{length};
+ghost use Rattle.index.specs.Letters.{letterCount};
+ghost use Rattle.index.specs.Block.{number, place, key, id, countAt};
+ghost use Rattle.index.specs.Bytes.{Put, Num};
+
+// The number at byte i.
+pub fn number_at(b: &[u8], i: usize) -> usize
+    requires { ⌜ i + 1 < length (now b) ⌝ }
+    ensures { λ r. ⌜ Num (number (now (b .entry)) i) r ⌝ }
+{
+    (b[i] as usize) + 256 * (b[i + 1] as usize)
+}
+
+// Write n at byte i.
+pub fn put_number(b: &mut [u8], i: usize, n: usize)
+    requires { ⌜ (i + 1 < length (now b)) × (n < 65536) ⌝ }
+    ensures { λ _. ⌜ Put i n (now (b .entry)) (now (b .exit)) ⌝ }
+{
+    b[i] = (n % 256) as u8;
+    b[i + 1] = (n / 256) as u8;
+}
+
+// The key of record i.
+pub fn key_at(b: &[u8], i: usize) -> usize
+    requires { ⌜ place (i + 1) ≤ length (now b) ⌝ }
+    ensures { λ r. ⌜ Num (key (now (b .entry)) i) r ⌝ }
+{
+    number_at(b, HEADER + RECORD * i)
+}
+
+// The id of record i.
+pub fn id_at(b: &[u8], i: usize) -> usize
+    requires { ⌜ place (i + 1) ≤ length (now b) ⌝ }
+    ensures { λ r. ⌜ Num (id (now (b .entry)) i) r ⌝ }
+{
+    number_at(b, HEADER + RECORD * i + 2)
+}
+
+// The count of letter k in record i.
+pub fn count_at(b: &[u8], i: usize, k: usize) -> usize
+    requires { ⌜ (place (i + 1) ≤ length (now b)) × (k < letterCount) ⌝ }
+    ensures { λ r. ⌜ Num (countAt (now (b .entry)) i k) r ⌝ }
+{
+    number_at(b, HEADER + RECORD * i + 4 + 2 * k)
+}
+
+// Write n as the count of letter k in record i.
+pub fn put_count(b: &mut [u8], i: usize, k: usize, n: usize)
+    requires { ⌜ (place (i + 1) ≤ length (now b)) × (k < letterCount) × (n < 65536) ⌝ }
+    ensures { λ _. ⌜ Put (place i + 4 + 2 * k) n (now (b .entry)) (now (b .exit)) ⌝ }
+{
+    put_number(b, HEADER + RECORD * i + 4 + 2 * k, n)
+}

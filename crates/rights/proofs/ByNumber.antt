@@ -1,0 +1,61 @@
+-- A record by its kind, key and id, and by its number.
+use Prim.Native.Nat.{ℕ, _+_, _*_, _<_, _≤_}
+use mathlib.Core.Path.{_≡_, refl, sym, _∙_}
+use mathlib.Core.List.{List}
+use mathlib.Core.Logic.{_↔_, ⊎-elim}
+use native.Mathlib.Omega.{arith}
+use Rattle.index.specs.declared.Kind.{Kind}
+use Rattle.index.specs.Block.{number, records, key, id, Of, count, Good}
+use Rattle.index.specs.Places.{At}
+use Rattle.index.specs.Doors.{NetAt}
+use Rattle.index.proofs.Records.{where-is, count-at, count-none, of-records, no-lower}
+use Rattle.rights.specs.Held.{Is, Net}
+
+-- The end of the parts is a 16-bit number.
+pub few : {b : List ℕ} → Good b → 16 + 20 * records b < 65536
+unfolding number
+few {b} g = omega (arith, g .end-offset, g .bytes 14, g .bytes 15)
+
+pub at-self : {b : List ℕ} {kind : Kind} {i : ℕ} → Of b kind i → At b kind (key b i) (id b i) i
+at-self of = record { of = of; has-key = refl; has-id = refl }
+
+module _ {b : List ℕ} (g : Good b) (kind : Kind) where
+  pub key-name : {i : ℕ} → Of b kind i → key b i < 1024
+  key-name {i} of = g .keys i (of-records kind b i of)
+
+  pub id-name : {i : ℕ} → Of b kind i → id b i < 1024
+  id-name {i} of = g .ids i (of-records kind b i of)
+
+  pub keys-rise : (i j : ℕ) → i ≤ j → Of b kind i → Of b kind j → key b i ≤ key b j
+  keys-rise i j l of of′ = omega (arith, no-lower b g kind i j l of of′, id-name of′)
+
+  -- Of one key, ids rise.
+  pub ids-rise : (i j : ℕ) → i ≤ j → Of b kind i → Of b kind j → key b i ≡ key b j → id b i ≤ id b j
+  ids-rise i j l of of′ same = omega (arith, no-lower b g kind i j l of of′)
+
+  module _ {x y : ℕ} where
+    counted : (k : ℕ) → 0 < count b kind x y k → (i : ℕ) × At b kind x y i
+    counted k pos = ⊎-elim (λ a. a) (λ n. absurd (omega (arith, count-none b kind x y k n))) (where-is b x y kind)
+
+    pub is-where : Is b kind x y → (i : ℕ) × At b kind x y i
+    unfolding Is
+    is-where is = counted (is .0) (is .2)
+
+    pub is-at : {i : ℕ} → At b kind x y i → Is b kind x y
+    unfolding Is
+    is-at {i} a =
+        let c = g .counted i (of-records kind b i (a .of)) in
+        (c .0, c .1, rw (count-at g kind x y i (c .0) a) (c .2))
+
+    pub net-at : {i : ℕ} (k : ℕ) → k < 4 → At b kind x y i → NetAt b i k ↔ Net b kind x y k
+    unfolding Net
+    net-at {i} k h a =
+        let big = count-at g kind x y i k a in
+        let small = count-at g kind x y i (k + 4) a in
+        ((λ n. (h, rw big (n .0), small ∙ n .1)), (λ n. (rw big at (n .1), sym small ∙ n .2)))
+
+    pub net-where : (k : ℕ) → Net b kind x y k → (i : ℕ) × At b kind x y i × NetAt b i k
+    unfolding Net
+    net-where k n =
+        let w = counted k (n .1) in
+        (w .0, w .1, net-at k (n .0) (w .1) .1 n)

@@ -1,0 +1,16 @@
+-- What the proofs of several functions use, and the laws that are published.
+mod ByNumber
+mod Filling
+mod Rounding
+pub mod MarksAreChains
+pub mod MarksNeverShrink
+mod Looking
+mod Filters
+mod Granting
+mod Sides
+mod Asking
+pub mod OneAnswer
+pub mod ShortAgrees
+mod ChainTest
+mod FilterTest
+pub mod HoldsTest

@@ -1,0 +1,73 @@
+-- `questions::rights_of` meets its contract: the refusal, or the rights held.
+use mathlib.Core.Path.{_≡_, refl}
+use native.Mathlib.Omega.{arith}
+use borrow.Author.Needs.{needs}
+use Rattle.index.proofs.Masks.{mask-limited}
+use Rattle.rights.specs.Questions.{Limited, Full, Asks}
+use Rattle.rights.proofs.Asking.{Asked, asked, positive, refused, accepts, limited}
+use Rattle.rights.proofs.questions.rights_of.Statement.{statement}
+use Rattle.rights.proofs.questions.rights_of.Tie as tie
+
+returns : tie.Need-returns
+unfolding Asks Full
+returns c =
+    let start = c .before .before .before in
+    let b = start .args .block .now in
+    let u = start .args .user in
+    let o = start .args .object in
+    let q = start .args .request in
+    let some = positive (c .before .refusal .result) (c .if1 .taken) in
+    (some, refused b u o q (λ n. (n, 0)) (λ a. (a .0 ≡ 0) × Limited b u o q (a .1)) (c .before .refusal .result) some (c .before .refusal .ensures))
+
+-- All that the question needs holds.
+module _ (c : tie.Else1) where
+  abbrev start : tie.Start
+  start = c .before .before .before
+
+  all : Asked (start .args .block .now) (start .args .user) (start .args .object) (start .args .request)
+  all =
+      asked (start .args .block .now) (start .args .user) (start .args .object) (start .args .request) (c .before .refusal .result)
+      (c .if1 .left) (c .before .refusal .ensures)
+
+cast-filter-of : tie.Need-cast-filter-of
+cast-filter-of c = omega (arith, all c .object)
+
+filter-of-requires : tie.Need-filter-of-requires
+filter-of-requires c κs = (all c .good, all c .object)
+
+cast-wanted : tie.Need-cast-wanted
+cast-wanted c = omega (arith, all (c .before) .small)
+
+cast-granted : tie.Need-cast-granted
+cast-granted c = omega (arith, all (c .before) .user)
+
+cast-granted-2 : tie.Need-cast-granted-2
+cast-granted-2 c = omega (arith, all (c .before) .object)
+
+granted-requires : tie.Need-granted-requires
+granted-requires c κs = let a = all (c .before) in ((a .sized, a .good), (a .user, a .object))
+
+returns-2 : tie.Need-returns-2
+unfolding Asks Full
+returns-2 c =
+    let start = c .before .before .before .before .before in
+    let b = start .args .block .now in
+    let u = start .args .user in
+    let o = start .args .object in
+    let q = start .args .request in
+    accepts b u o q (λ n. (n, 0)) (λ a. (a .0 ≡ 0) × Limited b u o q (a .1)) (0, c .granted .result) (all (c .before .before))
+    (refl, limited b u o q (mask-limited (c .before .filter-of .ensures) q) (c .granted .ensures))
+
+pub rights-of-spec : {M : Type 1} → statement M
+rights-of-spec =
+    tie.close
+    (tie.spec
+    (λ c κs. search needs)
+    returns
+    cast-filter-of
+    filter-of-requires
+    cast-wanted
+    cast-granted
+    cast-granted-2
+    granted-requires
+    returns-2)

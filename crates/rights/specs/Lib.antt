@@ -1,0 +1,6 @@
+-- What the support desk reads.
+pub mod Held
+pub mod Questions
+-- What only proofs need.
+pub mod Marks
+pub mod Lookup

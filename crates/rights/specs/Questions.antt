@@ -1,0 +1,49 @@
+-- 01, "The rights": the two questions, and the numbers they give.
+use Prim.Native.Nat.{ℕ, _<_, _≤_}
+use mathlib.Core.Path.{_≡_}
+use mathlib.Core.List.{List, [], _∷_, _++_}
+use mathlib.Core.Logic.{_↔_}
+use Rattle.index.specs.Letters.{In}
+use Rattle.index.specs.Numbers.{First}
+use Rattle.index.specs.Block.{IsName}
+use Rattle.index.specs.Calls.{blockNeeds}
+use Rattle.rights.specs.declared.Rights.{Rights}
+use Rattle.rights.specs.declared.Rights.the-variants as rights
+use Rattle.rights.specs.declared.Answer.{Answer}
+use Rattle.rights.specs.declared.Answer.the-variants as answer
+use Rattle.rights.specs.Held.{Holds}
+
+-- 1 and 2 of the block; 4: "a name above 1023"; 5: "request 0 or above 15".
+unfoldable pub questionNeeds : List ℕ → ℕ → ℕ → ℕ → List (ℕ × Type 0)
+questionNeeds b u o request =
+    blockNeeds b ++ ((4, IsName u × IsName o) ∷ (5, (1 ≤ request) × (request ≤ 15)) ∷ [])
+
+-- "the rights held, limited to the rights requested"
+unfoldable pub Limited : List ℕ → ℕ → ℕ → ℕ → ℕ → Type 0
+Limited b u o request mask = (mask < 16) × ((k : ℕ) → k < 4 → In k mask ↔ (Holds b u o k × In k request))
+
+-- The full question: the number, and the rights.
+unfoldable pub Full : List ℕ → ℕ → ℕ → ℕ → (ℕ × ℕ) → Type 0
+Full b u o request a =
+    First (λ n. (n, 0)) (questionNeeds b u o request) (λ a. (a .0 ≡ 0) × Limited b u o request (a .1)) a
+
+-- "every requested right is held"
+unfoldable pub HoldsAll : List ℕ → ℕ → ℕ → ℕ → Type 0
+HoldsAll b u o request = (k : ℕ) → k < 4 → In k request → Holds b u o k
+
+-- The short question: the number, and 1 for yes or 0 for no. "yes exactly when every requested right is held"
+unfoldable pub Short : List ℕ → ℕ → ℕ → ℕ → (ℕ × ℕ) → Type 0
+Short b u o request a =
+    First (λ n. (n, 0)) (questionNeeds b u o request)
+    (λ a. (a .0 ≡ 0) × (a .1 < 2) × ((a .1 ≡ 1) ↔ HoldsAll b u o request)) a
+
+-- ---- what each case of an answer stands for: 01's number, and its value
+
+unfoldable pub Asks : List ℕ → ℕ → ℕ → ℕ → Rights → Type 0
+Asks b u o request (rights.Held mask) = Full b u o request (0, mask)
+Asks b u o request (rights.Refused n) = (0 < n) × Full b u o request (n, 0)
+
+unfoldable pub AsksAll : List ℕ → ℕ → ℕ → ℕ → Answer → Type 0
+AsksAll b u o request answer.Yes = Short b u o request (0, 1)
+AsksAll b u o request answer.No = Short b u o request (0, 0)
+AsksAll b u o request (answer.Refused n) = (0 < n) × Short b u o request (n, 0)

@@ -1,0 +1,326 @@
+//! Safe calls of `libanaqsiro.a`: an authorization index in one block of bytes, with counts, so that a right that two
+//! statements give is still held when one of them is withdrawn.
+//!
+//! ```
+//! use anaqsiro::{Block, Half, Kind, Message, Rights};
+//!
+//! let mut block = Block::with_room(8);
+//! let may_release = Half { key: 9, id: 1, mask: Rights::UPDATE };
+//! let give = Message::new(Kind::Permission, None, Some(may_release));
+//! block.apply(&give)?;
+//! block.apply(&give)?; // a second appointment gives the same right
+//! block.apply(&Message::new(Kind::Permission, Some(may_release), None))?; // the first ends
+//! assert!(block.may(1, 9, Rights::UPDATE)?);
+//! assert_eq!(block.set_text(Kind::Permission, 9)?, "1;U");
+//! # Ok::<(), anaqsiro::Refusal>(())
+//! ```
+//!
+//! No call panics, whatever the bytes and numbers. Bad input gets the one [`Refusal`] that the rules assign to it, and then
+//! nothing has changed:
+//!
+//! ```
+//! use anaqsiro::{Block, Refusal, Rights};
+//!
+//! let block = Block::from_bytes(vec![0; 40]);
+//! assert_eq!(block.rights(1, 9, Rights::ALL), Err(Refusal::BlockNotGood));
+//! let block = Block::with_room(0);
+//! assert_eq!(block.rights(65_537, 9, Rights::ALL), Err(Refusal::Name));
+//! ```
+
+use std::fmt;
+use std::ops::BitOr;
+
+mod raw {
+    #[link(name = "anaqsiro", kind = "static")]
+    extern "C" {
+        pub fn anaqsiro_make(block: *mut u8, len: usize) -> u64;
+        pub fn anaqsiro_message(block: *mut u8, len: usize, message: *const u8, message_len: usize) -> u64;
+        pub fn anaqsiro_rights(block: *const u8, len: usize, user: u64, object: u64, request: u64) -> u64;
+        pub fn anaqsiro_may(block: *const u8, len: usize, user: u64, object: u64, request: u64) -> u64;
+        pub fn anaqsiro_write(block: *const u8, len: usize, kind: u64, key: u64, out: *mut u8, out_len: usize) -> u64;
+        pub fn anaqsiro_read(block: *mut u8, len: usize, kind: u64, key: u64, text: *const u8, text_len: usize) -> u64;
+    }
+}
+
+/// What a record says.
+#[derive(Clone, Copy, Debug, PartialEq, Eq, Hash)]
+pub enum Kind {
+    /// The key is a member of the group id.
+    Membership = 1,
+    /// The id is granted or denied rights on the key.
+    Permission = 2,
+    /// The filter named id bounds the key.
+    Filter = 3,
+}
+
+/// A mask of rights and, in a permission, of denials.
+#[derive(Clone, Copy, Debug, PartialEq, Eq, Hash)]
+pub struct Rights(pub u8);
+
+impl Rights {
+    pub const NONE: Rights = Rights(0);
+    pub const CREATE: Rights = Rights(1);
+    pub const READ: Rights = Rights(2);
+    pub const UPDATE: Rights = Rights(4);
+    pub const DELETE: Rights = Rights(8);
+    pub const ALL: Rights = Rights(15);
+
+    /// The denial of each of these rights.
+    pub fn denied(self) -> Rights {
+        Rights(self.0 << 4)
+    }
+
+    /// Whether all of the others are among these.
+    pub fn contains(self, others: Rights) -> bool {
+        self.0 & others.0 == others.0
+    }
+}
+
+impl BitOr for Rights {
+    type Output = Rights;
+
+    fn bitor(self, other: Rights) -> Rights {
+        Rights(self.0 | other.0)
+    }
+}
+
+/// Why a call was refused. Nothing has changed then.
+#[derive(Clone, Copy, Debug, PartialEq, Eq, Hash)]
+pub enum Refusal {
+    /// 1: block length not 16 to 40,976.
+    BlockLength,
+    /// 2: block not good.
+    BlockNotGood,
+    /// 3: message not 12 bytes, or kind, flags or an absent half wrong.
+    Form,
+    /// 4: a name above 1023.
+    Name,
+    /// 5: request 0 or above 15; a mask 0, or above 15 for a membership or a filter.
+    Mask,
+    /// 6: a letter of the previous half has count 0 or no record.
+    NothingToTake,
+    /// 7: after taking away, a letter to add stands at 65,535.
+    CountFull,
+    /// 8: after taking away, the records do not fit.
+    NoRoom,
+    /// 9: not the text of any set of that kind.
+    Text,
+    /// 10: text longer than the output buffer.
+    TextLong,
+}
+
+impl Refusal {
+    const ALL: [Refusal; 10] = [
+        Refusal::BlockLength,
+        Refusal::BlockNotGood,
+        Refusal::Form,
+        Refusal::Name,
+        Refusal::Mask,
+        Refusal::NothingToTake,
+        Refusal::CountFull,
+        Refusal::NoRoom,
+        Refusal::Text,
+        Refusal::TextLong,
+    ];
+
+    /// The number of the refusal, 1 to 10.
+    pub fn number(self) -> u32 {
+        self as u32 + 1
+    }
+}
+
+impl fmt::Display for Refusal {
+    fn fmt(&self, f: &mut fmt::Formatter<'_>) -> fmt::Result {
+        let why = match self {
+            Refusal::BlockLength => "the block is not 16 to 40,976 bytes long",
+            Refusal::BlockNotGood => "the block is not good",
+            Refusal::Form => "the message is not well formed",
+            Refusal::Name => "a name is above 1023",
+            Refusal::Mask => "a mask or a request is out of range",
+            Refusal::NothingToTake => "a letter to take away has no count",
+            Refusal::CountFull => "a count stands at 65,535",
+            Refusal::NoRoom => "the records do not fit",
+            Refusal::Text => "the text is of no set of that kind",
+            Refusal::TextLong => "the text is longer than the buffer",
+        };
+        write!(f, "refused with {}: {why}", self.number())
+    }
+}
+
+impl std::error::Error for Refusal {}
+
+/// An answer taken apart.
+fn answer(packed: u64) -> Result<u32, Refusal> {
+    match (packed >> 32) as usize {
+        0 => Ok(packed as u32),
+        number => Err(Refusal::ALL[(number - 1).min(9)]),
+    }
+}
+
+/// One half of a message: a record, and the letters that are taken away from it or added to it.
+#[derive(Clone, Copy, Debug, PartialEq, Eq, Hash)]
+pub struct Half {
+    pub key: u16,
+    pub id: u16,
+    pub mask: Rights,
+}
+
+/// A message of 12 bytes.
+#[derive(Clone, Copy, Debug, PartialEq, Eq, Hash)]
+pub struct Message(pub [u8; 12]);
+
+impl Message {
+    /// What the statement said before, and what it says now.
+    pub fn new(kind: Kind, previous: Option<Half>, new: Option<Half>) -> Message {
+        let mut bytes = [0; 12];
+        bytes[0] = kind as u8;
+        for (side, half) in [previous, new].into_iter().enumerate() {
+            if let Some(half) = half {
+                bytes[1] |= 1 << side;
+                let at = 2 + 5 * side;
+                bytes[at..at + 2].copy_from_slice(&half.key.to_le_bytes());
+                bytes[at + 2..at + 4].copy_from_slice(&half.id.to_le_bytes());
+                bytes[at + 4] = half.mask.0;
+            }
+        }
+        Message(bytes)
+    }
+}
+
+impl AsRef<[u8]> for Message {
+    fn as_ref(&self) -> &[u8] {
+        &self.0
+    }
+}
+
+/// A block of bytes that holds an index.
+#[derive(Clone, Debug, PartialEq, Eq)]
+pub struct Block {
+    bytes: Vec<u8>,
+}
+
+impl Block {
+    /// The greatest number of records that a block can have room for.
+    pub const GREATEST_ROOM: usize = 2048;
+
+    /// An empty block with room for so many records, at most [`Block::GREATEST_ROOM`].
+    pub fn with_room(records: usize) -> Block {
+        let mut block = Block { bytes: vec![0; 16 + 20 * records.min(Self::GREATEST_ROOM)] };
+        let made = block.clear();
+        debug_assert!(made.is_ok());
+        block
+    }
+
+    /// Any bytes. Where they are no good block, each call but [`Block::clear`] refuses them.
+    pub fn from_bytes(bytes: Vec<u8>) -> Block {
+        Block { bytes }
+    }
+
+    pub fn bytes(&self) -> &[u8] {
+        &self.bytes
+    }
+
+    pub fn into_bytes(self) -> Vec<u8> {
+        self.bytes
+    }
+
+    /// Makes the block an empty one, as long as it is.
+    pub fn clear(&mut self) -> Result<(), Refusal> {
+        // SAFETY: the pointer and the length are those of one slice that is ours for the call.
+        answer(unsafe { raw::anaqsiro_make(self.bytes.as_mut_ptr(), self.bytes.len()) }).map(drop)
+    }
+
+    /// Applies a message: takes the previous half away, then adds the new one.
+    pub fn apply(&mut self, message: impl AsRef<[u8]>) -> Result<(), Refusal> {
+        let message = message.as_ref();
+        // SAFETY: each pointer and length are those of one slice; the borrows keep the two apart.
+        answer(unsafe {
+            raw::anaqsiro_message(self.bytes.as_mut_ptr(), self.bytes.len(), message.as_ptr(), message.len())
+        })
+        .map(drop)
+    }
+
+    /// The rights that the user holds on the object, of those requested.
+    pub fn rights(&self, user: u64, object: u64, request: Rights) -> Result<Rights, Refusal> {
+        // SAFETY: the pointer and the length are those of one slice, which the call only reads.
+        answer(unsafe { raw::anaqsiro_rights(self.bytes.as_ptr(), self.bytes.len(), user, object, request.0.into()) })
+            .map(|mask| Rights(mask as u8))
+    }
+
+    /// Whether the user holds every right requested on the object.
+    pub fn may(&self, user: u64, object: u64, request: Rights) -> Result<bool, Refusal> {
+        // SAFETY: the pointer and the length are those of one slice, which the call only reads.
+        answer(unsafe { raw::anaqsiro_may(self.bytes.as_ptr(), self.bytes.len(), user, object, request.0.into()) })
+            .map(|yes| yes == 1)
+    }
+
+    /// Writes the records of one kind and key as text at the front of `out`, and says how long the text is.
+    pub fn write_set(&self, kind: Kind, key: u64, out: &mut [u8]) -> Result<usize, Refusal> {
+        // SAFETY: each pointer and length are those of one slice; the borrows keep the two apart.
+        answer(unsafe {
+            raw::anaqsiro_write(self.bytes.as_ptr(), self.bytes.len(), kind as u64, key, out.as_mut_ptr(), out.len())
+        })
+        .map(|length| length as usize)
+    }
+
+    /// The records of one kind and key as text.
+    pub fn set_text(&self, kind: Kind, key: u64) -> Result<String, Refusal> {
+        let mut out = vec![0; 64];
+        loop {
+            match self.write_set(kind, key, &mut out) {
+                Err(Refusal::TextLong) => out.resize(2 * out.len(), 0),
+                Err(refusal) => return Err(refusal),
+                Ok(length) => {
+                    out.truncate(length);
+                    return Ok(out.into_iter().map(char::from).collect());
+                }
+            }
+        }
+    }
+
+    /// Replaces the records of one kind and key by those of a text, and says how many they are.
+    pub fn read_set(&mut self, kind: Kind, key: u64, text: impl AsRef<[u8]>) -> Result<usize, Refusal> {
+        let text = text.as_ref();
+        // SAFETY: each pointer and length are those of one slice; the borrows keep the two apart.
+        answer(unsafe {
+            raw::anaqsiro_read(self.bytes.as_mut_ptr(), self.bytes.len(), kind as u64, key, text.as_ptr(), text.len())
+        })
+        .map(|records| records as usize)
+    }
+}
+
+#[cfg(test)]
+mod tests {
+    use super::*;
+
+    #[test]
+    fn a_set_goes_there_and_back() {
+        let mut block = Block::with_room(4);
+        assert_eq!(block.read_set(Kind::Permission, 7, "3;MRU;12;MRU2"), Ok(2));
+        assert_eq!(block.set_text(Kind::Permission, 7).as_deref(), Ok("3;MRU;12;MRU2"));
+        let before = block.clone();
+        assert_eq!(block.read_set(Kind::Permission, 7, "3;M1"), Err(Refusal::Text));
+        assert_eq!(block.read_set(Kind::Permission, 8, "1;M;2;M;3;M"), Err(Refusal::NoRoom));
+        assert_eq!(block, before);
+        assert_eq!(block.write_set(Kind::Permission, 7, &mut [0; 12]), Err(Refusal::TextLong));
+    }
+
+    #[test]
+    fn denials_stay_in_their_record() {
+        let mut block = Block::with_room(4);
+        let half = |id, mask| Some(Half { key: 9, id, mask });
+        block.apply(Message::new(Kind::Permission, None, half(1, Rights::ALL | Rights::CREATE.denied()))).unwrap();
+        block.apply(Message::new(Kind::Permission, None, half(2, Rights::CREATE))).unwrap();
+        block.apply(Message::new(Kind::Membership, None, Some(Half { key: 1, id: 2, mask: Rights::ALL }))).unwrap();
+        assert_eq!(block.rights(1, 9, Rights::ALL), Ok(Rights::ALL));
+        assert_eq!(block.rights(2, 9, Rights::ALL), Ok(Rights::CREATE));
+    }
+
+    #[test]
+    fn every_refusal_has_its_number() {
+        let numbers: Vec<u32> = Refusal::ALL.iter().map(|r| r.number()).collect();
+        assert_eq!(numbers, (1..=10).collect::<Vec<_>>());
+        assert_eq!(Block::from_bytes(vec![]).clear(), Err(Refusal::BlockLength));
+        assert_eq!(Block::with_room(1).apply([0u8; 3]), Err(Refusal::Form));
+    }
+}

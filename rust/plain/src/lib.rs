@@ -1,0 +1,406 @@
+//! The same rules as a straightforward fast program on the bytes of the block: what the library is timed against. It works
+//! in place, searches by halves, moves bytes with `copy_within`, and keeps marks in arrays.
+
+const HEADER: usize = 16;
+const RECORD: usize = 20;
+const GREATEST: usize = 40_976;
+const LETTERS: [u8; 8] = *b"MRUPmrup";
+
+fn word(b: &[u8], at: usize) -> usize {
+    usize::from(u16::from_le_bytes([b[at], b[at + 1]]))
+}
+
+fn put_word(b: &mut [u8], at: usize, n: usize) {
+    b[at..at + 2].copy_from_slice(&(n as u16).to_le_bytes());
+}
+
+fn place(i: usize) -> usize {
+    HEADER + RECORD * i
+}
+
+/// The first record number of each part, and the end.
+fn bounds(b: &[u8]) -> [usize; 4] {
+    let (m, p, f) = (word(b, 0), word(b, 2), word(b, 4));
+    [0, m, m + p, m + p + f]
+}
+
+fn spot(b: &[u8], i: usize) -> usize {
+    word(b, place(i)) << 10 | word(b, place(i) + 2)
+}
+
+/// 0 for a good block, else 1 or 2.
+pub fn tested(b: &[u8]) -> u32 {
+    if b.len() < HEADER || b.len() > GREATEST {
+        return 1;
+    }
+    let at = bounds(b);
+    let header = [0, HEADER, place(at[1]), place(at[2]), place(at[3])];
+    if (0..5).any(|k| word(b, 6 + 2 * k) != header[k]) || place(at[3]) > b.len() {
+        return 2;
+    }
+    for kind in 0..3 {
+        let mut last = None;
+        for record in b[place(at[kind])..place(at[kind + 1])].chunks_exact(RECORD) {
+            let (key, id) = (word(record, 0), word(record, 2));
+            if key > 1023 || id > 1023 || last >= Some((key, id)) {
+                return 2;
+            }
+            last = Some((key, id));
+            let capitals = record[4..12].iter().fold(0, |a, &c| a | c);
+            let smalls = record[12..].iter().fold(0, |a, &c| a | c);
+            if capitals | smalls == 0 || (kind != 1 && smalls != 0) {
+                return 2;
+            }
+        }
+    }
+    if b[place(at[3])..].iter().any(|&x| x != 0) {
+        2
+    } else {
+        0
+    }
+}
+
+fn put_header(b: &mut [u8], m: usize, p: usize, f: usize) {
+    for (k, n) in [m, p, f, 0, HEADER, place(m), place(m + p), place(m + p + f)].into_iter().enumerate() {
+        put_word(b, 2 * k, n);
+    }
+}
+
+pub fn make(b: &mut [u8]) -> u32 {
+    if b.len() < HEADER || b.len() > GREATEST {
+        return 1;
+    }
+    b.fill(0);
+    put_header(b, 0, 0, 0);
+    0
+}
+
+/// The first record of the part whose key and id are at least these.
+fn lower(b: &[u8], mut lo: usize, mut hi: usize, want: usize) -> usize {
+    while lo < hi {
+        let mid = (lo + hi) / 2;
+        if spot(b, mid) < want {
+            lo = mid + 1;
+        } else {
+            hi = mid;
+        }
+    }
+    lo
+}
+
+fn find(b: &[u8], kind: usize, want: usize) -> (usize, bool) {
+    let at = bounds(b);
+    let i = lower(b, at[kind], at[kind + 1], want);
+    (i, i < at[kind + 1] && spot(b, i) == want)
+}
+
+/// The records from `from` on move so that they begin at `to`; the header follows.
+fn shift(b: &mut [u8], kind: usize, from: usize, to: usize) {
+    let at = bounds(b);
+    let end = place(at[3]);
+    b.copy_within(place(from)..end, place(to));
+    if to < from {
+        b[end - RECORD * (from - to)..end].fill(0);
+    }
+    let mut sizes = [at[1], at[2] - at[1], at[3] - at[2]];
+    sizes[kind] = sizes[kind] + to - from;
+    put_header(b, sizes[0], sizes[1], sizes[2]);
+}
+
+fn count_at(i: usize, k: usize) -> usize {
+    place(i) + 4 + 2 * k
+}
+
+fn take(b: &mut [u8], kind: usize, want: usize, mask: u8) -> u32 {
+    let (i, there) = find(b, kind, want);
+    if !there || (0..8).any(|k| mask >> k & 1 == 1 && word(b, count_at(i, k)) == 0) {
+        return 6;
+    }
+    let mut left = 0;
+    for k in 0..8 {
+        let n = word(b, count_at(i, k)) - usize::from(mask >> k & 1);
+        put_word(b, count_at(i, k), n);
+        left |= n;
+    }
+    if left == 0 {
+        shift(b, kind, i + 1, i);
+    }
+    0
+}
+
+fn add(b: &mut [u8], kind: usize, want: usize, mask: u8) -> u32 {
+    let (i, there) = find(b, kind, want);
+    if there {
+        if (0..8).any(|k| mask >> k & 1 == 1 && word(b, count_at(i, k)) == 65_535) {
+            return 7;
+        }
+        for k in 0..8 {
+            let n = word(b, count_at(i, k)) + usize::from(mask >> k & 1);
+            put_word(b, count_at(i, k), n);
+        }
+    } else {
+        if bounds(b)[3] == (b.len() - HEADER) / RECORD {
+            return 8;
+        }
+        shift(b, kind, i, i + 1);
+        put_word(b, place(i), want >> 10);
+        put_word(b, place(i) + 2, want & 1023);
+        for k in 0..8 {
+            put_word(b, count_at(i, k), usize::from(mask >> k & 1));
+        }
+    }
+    0
+}
+
+pub fn message(b: &mut [u8], m: &[u8]) -> u32 {
+    let number = tested(b);
+    if number != 0 {
+        return number;
+    }
+    if m.len() != 12 || !(1..=3).contains(&m[0]) || !(1..=3).contains(&m[1]) {
+        return 3;
+    }
+    let (old, new) = (m[1] & 1 == 1, m[1] & 2 == 2);
+    if (!old && m[2..7] != [0; 5]) || (!new && m[7..12] != [0; 5]) {
+        return 3;
+    }
+    if [2, 4, 7, 9].into_iter().any(|at| word(m, at) > 1023) {
+        return 4;
+    }
+    let kind = usize::from(m[0]) - 1;
+    let bad = |mask: u8| mask == 0 || (kind != 1 && mask > 15);
+    if (old && bad(m[6])) || (new && bad(m[11])) {
+        return 5;
+    }
+    let (from, to) = (word(m, 2) << 10 | word(m, 4), word(m, 7) << 10 | word(m, 9));
+    if old {
+        let number = take(b, kind, from, m[6]);
+        if number != 0 {
+            return number;
+        }
+    }
+    if new {
+        let number = add(b, kind, to, m[11]);
+        if number != 0 {
+            if old {
+                add(b, kind, from, m[6]);
+            }
+            return number;
+        }
+    }
+    0
+}
+
+fn net(b: &[u8], i: usize) -> u8 {
+    let mask = (0..8).fold(0u8, |m, k| m | u8::from(word(b, count_at(i, k)) > 0) << k);
+    mask & !(mask >> 4) & 15
+}
+
+fn side(b: &[u8], nets: &[u8], start: usize) -> [u8; 1024] {
+    let mut marks = [0u8; 1024];
+    marks[start] = 15;
+    for _ in 0..32 {
+        let before = marks;
+        let mut grew = 0;
+        for (i, &net) in nets.iter().enumerate() {
+            let (key, id) = (word(b, place(i)), word(b, place(i) + 2));
+            let more = before[key] & net & !marks[id];
+            marks[id] |= more;
+            grew |= more;
+        }
+        if grew == 0 {
+            break;
+        }
+    }
+    marks
+}
+
+fn filter(b: &[u8], object: usize) -> u8 {
+    let at = bounds(b);
+    let of = |name: usize| {
+        let i = lower(b, at[2], at[3], name << 10);
+        (i < at[3] && word(b, place(i)) == name).then(|| net(b, i))
+    };
+    let first = lower(b, 0, at[1], object << 10);
+    of(object)
+        .or_else(|| (first..at[1]).take_while(|&i| word(b, place(i)) == object).find_map(|i| of(word(b, place(i) + 2))))
+        .unwrap_or(15)
+}
+
+fn question(b: &[u8], user: u64, object: u64, request: u64) -> Result<u8, u32> {
+    let number = tested(b);
+    if number != 0 {
+        return Err(number);
+    }
+    if user > 1023 || object > 1023 {
+        return Err(4);
+    }
+    if request == 0 || request > 15 {
+        return Err(5);
+    }
+    let (request, at) = (request as u8, bounds(b));
+    let nets: Vec<u8> = (0..at[1]).map(|i| net(b, i)).collect();
+    let users = side(b, &nets, user as usize);
+    let mut objects = side(b, &nets, object as usize);
+    objects[0] = 15;
+    let limit = filter(b, object as usize) & request;
+    let mut held = 0;
+    for i in at[1]..at[2] {
+        held |= net(b, i) & objects[word(b, place(i))] & users[word(b, place(i) + 2)] & limit;
+        if held == limit {
+            break;
+        }
+    }
+    Ok(held)
+}
+
+pub fn rights(b: &[u8], user: u64, object: u64, request: u64) -> (u32, u32) {
+    question(b, user, object, request).map_or_else(|n| (n, 0), |held| (0, held.into()))
+}
+
+pub fn may(b: &[u8], user: u64, object: u64, request: u64) -> (u32, u32) {
+    question(b, user, object, request).map_or_else(|n| (n, 0), |held| (0, (u64::from(held) == request).into()))
+}
+
+fn set_bounds(b: &[u8], kind: u64, key: u64) -> Result<(usize, usize, usize), u32> {
+    let number = tested(b);
+    if number != 0 {
+        return Err(number);
+    }
+    if !(1..=3).contains(&kind) {
+        return Err(3);
+    }
+    if key > 1023 {
+        return Err(4);
+    }
+    let (kind, want, at) = (kind as usize - 1, (key as usize) << 10, bounds(b));
+    let lo = lower(b, at[kind], at[kind + 1], want);
+    Ok((kind, lo, lower(b, lo, at[kind + 1], want + 1024)))
+}
+
+struct Out<'a> {
+    bytes: &'a mut [u8],
+    at: usize,
+}
+
+impl Out<'_> {
+    fn byte(&mut self, byte: u8) {
+        if let Some(slot) = self.bytes.get_mut(self.at) {
+            *slot = byte;
+        }
+        self.at += 1;
+    }
+
+    fn number(&mut self, n: usize) {
+        if n >= 10 {
+            self.number(n / 10);
+        }
+        self.byte(b'0' + (n % 10) as u8);
+    }
+}
+
+fn put_set(b: &[u8], lo: usize, hi: usize, out: &mut [u8]) -> usize {
+    let mut out = Out { bytes: out, at: 0 };
+    for i in lo..hi {
+        if i > lo {
+            out.byte(b';');
+        }
+        out.number(word(b, place(i) + 2));
+        out.byte(b';');
+        for (k, &letter) in LETTERS.iter().enumerate() {
+            let n = word(b, count_at(i, k));
+            if n > 0 {
+                out.byte(letter);
+                if n > 1 {
+                    out.number(n);
+                }
+            }
+        }
+    }
+    out.at
+}
+
+pub fn write(b: &[u8], kind: u64, key: u64, out: &mut [u8]) -> (u32, u32) {
+    match set_bounds(b, kind, key) {
+        Err(number) => (number, 0),
+        Ok((_, lo, hi)) => {
+            let length = put_set(b, lo, hi, &mut []);
+            if length > out.len() {
+                return (10, 0);
+            }
+            put_set(b, lo, hi, out);
+            (0, length as u32)
+        }
+    }
+}
+
+/// Reads a number without leading zeros from the front of the text.
+fn number(text: &[u8], at: &mut usize, most: usize) -> Option<usize> {
+    let start = *at;
+    let mut n = 0;
+    while let Some(digit) = text.get(*at).filter(|d| d.is_ascii_digit()) {
+        n = 10 * n + usize::from(digit - b'0');
+        *at += 1;
+        if n > most {
+            return None;
+        }
+    }
+    let fair = *at > start && (text[start] != b'0' || *at == start + 1);
+    fair.then_some(n)
+}
+
+/// Reads the set of a text, handing each record's id and counts on; how many there are, or None where it is of no set.
+fn scan(text: &[u8], kind: usize, mut each: impl FnMut(usize, usize, &[usize; 8])) -> Option<usize> {
+    let (mut at, mut records, mut least) = (0, 0, 0);
+    while at < text.len() || records > 0 {
+        let id = number(text, &mut at, 1023)?;
+        if id < least || text.get(at) != Some(&b';') {
+            return None;
+        }
+        at += 1;
+        let mut counts = [0; 8];
+        let start = at;
+        for k in 0..if kind == 1 { 8 } else { 4 } {
+            if text.get(at) == Some(&LETTERS[k]) {
+                at += 1;
+                counts[k] = 1;
+                if text.get(at).is_some_and(u8::is_ascii_digit) {
+                    counts[k] = number(text, &mut at, 65_535).filter(|&n| n > 1)?;
+                }
+            }
+        }
+        if at == start {
+            return None;
+        }
+        each(records, id, &counts);
+        records += 1;
+        least = id + 1;
+        if at == text.len() {
+            return Some(records);
+        }
+        if text[at] != b';' {
+            return None;
+        }
+        at += 1;
+    }
+    Some(0)
+}
+
+pub fn read(b: &mut [u8], kind: u64, key: u64, text: &[u8]) -> (u32, u32) {
+    let (kind, lo, hi) = match set_bounds(b, kind, key) {
+        Err(number) => return (number, 0),
+        Ok(found) => found,
+    };
+    let Some(records) = scan(text, kind, |_, _, _| ()) else { return (9, 0) };
+    if bounds(b)[3] - (hi - lo) + records > (b.len() - HEADER) / RECORD {
+        return (8, 0);
+    }
+    shift(b, kind, hi, lo + records);
+    scan(text, kind, |n, id, counts| {
+        let i = lo + n;
+        put_word(b, place(i), key as usize);
+        put_word(b, place(i) + 2, id);
+        counts.iter().enumerate().for_each(|(k, &c)| put_word(b, count_at(i, k), c));
+    });
+    (0, records as u32)
+}

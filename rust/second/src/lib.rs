@@ -1,0 +1,372 @@
+//! A second reading of the rules of the authorization index, in another style than the library: a block is decoded into
+//! three ordered maps, every call works on the maps, and the result is encoded again. Each right is walked by itself with
+//! sets of names. Nothing here is shared with the library; the comparison holds the two against each other.
+
+use std::collections::{BTreeMap, BTreeSet};
+
+pub mod drive;
+pub mod gen;
+
+pub const LETTERS: &[u8; 8] = b"MRUPmrup";
+const HEADER: usize = 16;
+const RECORD: usize = 20;
+const GREATEST: usize = 40_976;
+
+/// The counts of one record, in letter order.
+pub type Counts = [u16; 8];
+
+/// The records of one kind, by key and id.
+pub type Part = BTreeMap<(u16, u16), Counts>;
+
+/// A decoded block: how long it is, and its three parts, M, P, F.
+#[derive(Clone, Debug, PartialEq, Eq)]
+pub struct Index {
+    pub length: usize,
+    pub parts: [Part; 3],
+}
+
+fn word(bytes: &[u8], at: usize) -> u16 {
+    u16::from_le_bytes([bytes[at], bytes[at + 1]])
+}
+
+impl Index {
+    pub fn empty(length: usize) -> Index {
+        Index { length, parts: Default::default() }
+    }
+
+    pub fn records(&self) -> usize {
+        self.parts.iter().map(|p| p.len()).sum()
+    }
+
+    pub fn room(&self) -> usize {
+        (self.length - HEADER) / RECORD
+    }
+
+    /// The bytes of the block. What a good block is, follows: the one encoding of its records.
+    pub fn encode(&self) -> Vec<u8> {
+        let mut words: Vec<u16> = self.parts.iter().map(|p| p.len() as u16).collect();
+        words.push(0);
+        let mut offset = HEADER;
+        words.push(offset as u16);
+        for part in &self.parts {
+            offset += RECORD * part.len();
+            words.push(offset as u16);
+        }
+        for part in &self.parts {
+            for (&(key, id), counts) in part {
+                words.extend([key, id]);
+                words.extend(counts);
+            }
+        }
+        let mut bytes: Vec<u8> = words.iter().flat_map(|w| w.to_le_bytes()).collect();
+        bytes.resize(self.length, 0);
+        bytes
+    }
+
+    /// The block's records, or the number that refuses it: 1 or 2.
+    pub fn decode(block: &[u8]) -> Result<Index, u32> {
+        if block.len() < HEADER || block.len() > GREATEST {
+            return Err(1);
+        }
+        let mut index = Index::empty(block.len());
+        let mut at = HEADER;
+        for (kind, part) in index.parts.iter_mut().enumerate() {
+            let mut last = None;
+            for _ in 0..word(block, 2 * kind) {
+                if at + RECORD > block.len() {
+                    return Err(2);
+                }
+                let name = (word(block, at), word(block, at + 2));
+                let mut counts: Counts = [0; 8];
+                for (k, count) in counts.iter_mut().enumerate() {
+                    *count = word(block, at + 4 + 2 * k);
+                }
+                let fair = name.0 < 1024
+                    && name.1 < 1024
+                    && last < Some(name)
+                    && counts != [0; 8]
+                    && (kind == 1 || counts[4..] == [0; 4]);
+                if !fair {
+                    return Err(2);
+                }
+                last = Some(name);
+                part.insert(name, counts);
+                at += RECORD;
+            }
+        }
+        if index.encode() == block {
+            Ok(index)
+        } else {
+            Err(2)
+        }
+    }
+}
+
+/// make: the number, and the block then.
+pub fn make(block: &[u8]) -> (u32, Vec<u8>) {
+    if block.len() < HEADER || block.len() > GREATEST {
+        return (1, block.to_vec());
+    }
+    (0, Index::empty(block.len()).encode())
+}
+
+struct Half {
+    name: (u16, u16),
+    mask: u8,
+}
+
+fn half(bytes: &[u8]) -> Half {
+    Half { name: (word(bytes, 0), word(bytes, 2)), mask: bytes[4] }
+}
+
+fn letters(mask: u8) -> impl Iterator<Item = usize> {
+    (0..8).filter(move |k| mask >> k & 1 == 1)
+}
+
+fn apply(index: &mut Index, message: &[u8]) -> Result<(), u32> {
+    if message.len() != 12 {
+        return Err(3);
+    }
+    let (kind, flags) = (message[0], message[1]);
+    if !(1..=3).contains(&kind) || !(1..=3).contains(&flags) {
+        return Err(3);
+    }
+    let mut halves = [None, None];
+    for (side, slot) in halves.iter_mut().enumerate() {
+        let bytes = &message[2 + 5 * side..7 + 5 * side];
+        if flags >> side & 1 == 1 {
+            *slot = Some(half(bytes));
+        } else if bytes != [0; 5] {
+            return Err(3);
+        }
+    }
+    let present = || halves.iter().flatten();
+    if present().any(|h| h.name.0 > 1023 || h.name.1 > 1023) {
+        return Err(4);
+    }
+    if present().any(|h| h.mask == 0 || (kind != 2 && h.mask > 15)) {
+        return Err(5);
+    }
+    let room = index.room();
+    if let Some(previous) = &halves[0] {
+        let part = &mut index.parts[kind as usize - 1];
+        let counts = part.get_mut(&previous.name).ok_or(6u32)?;
+        if letters(previous.mask).any(|k| counts[k] == 0) {
+            return Err(6);
+        }
+        letters(previous.mask).for_each(|k| counts[k] -= 1);
+        if *counts == [0; 8] {
+            part.remove(&previous.name);
+        }
+    }
+    if let Some(new) = &halves[1] {
+        let records = index.records();
+        let part = &mut index.parts[kind as usize - 1];
+        match part.get_mut(&new.name) {
+            Some(counts) => {
+                if letters(new.mask).any(|k| counts[k] == u16::MAX) {
+                    return Err(7);
+                }
+                letters(new.mask).for_each(|k| counts[k] += 1);
+            }
+            None => {
+                if records == room {
+                    return Err(8);
+                }
+                let mut counts = [0; 8];
+                letters(new.mask).for_each(|k| counts[k] = 1);
+                part.insert(new.name, counts);
+            }
+        }
+    }
+    Ok(())
+}
+
+/// message: the number, and the block then.
+pub fn message(block: &[u8], message: &[u8]) -> (u32, Vec<u8>) {
+    let outcome = Index::decode(block).and_then(|mut index| apply(&mut index, message).map(|()| index));
+    match outcome {
+        Ok(index) => (0, index.encode()),
+        Err(number) => (number, block.to_vec()),
+    }
+}
+
+fn carries(counts: &Counts, right: usize) -> bool {
+    counts[right] > 0 && counts[right + 4] == 0
+}
+
+/// The names that a chain of at most `limit` M records leads to from `start`, each record with the right.
+fn reached(memberships: &Part, start: u16, right: usize, limit: usize) -> BTreeSet<u16> {
+    let links: Vec<(u16, u16)> = memberships.iter().filter(|(_, c)| carries(c, right)).map(|(&n, _)| n).collect();
+    let mut names = BTreeSet::from([start]);
+    for _ in 0..limit {
+        let next: Vec<u16> = links.iter().filter(|(key, _)| names.contains(key)).map(|&(_, id)| id).collect();
+        let before = names.len();
+        names.extend(next);
+        if names.len() == before {
+            break;
+        }
+    }
+    names
+}
+
+/// The filter of an object, if there is one.
+fn filter(index: &Index, object: u16) -> Option<&Counts> {
+    let groups = index.parts[0].range((object, 0)..=(object, u16::MAX)).map(|(&(_, id), _)| id);
+    std::iter::once(object)
+        .chain(groups)
+        .find_map(|name| index.parts[2].range((name, 0)..=(name, u16::MAX)).next().map(|(_, c)| c))
+}
+
+fn holds(index: &Index, user: u16, object: u16, right: usize) -> bool {
+    if let Some(counts) = filter(index, object) {
+        if !carries(counts, right) {
+            return false;
+        }
+    }
+    let users = reached(&index.parts[0], user, right, 32);
+    let mut objects = reached(&index.parts[0], object, right, 32);
+    objects.insert(0);
+    index.parts[1].iter().any(|(&(g, s), c)| carries(c, right) && objects.contains(&g) && users.contains(&s))
+}
+
+fn question(block: &[u8], user: u64, object: u64, request: u64) -> Result<u8, u32> {
+    let index = Index::decode(block)?;
+    if user > 1023 || object > 1023 {
+        return Err(4);
+    }
+    if request == 0 || request > 15 {
+        return Err(5);
+    }
+    let held = (0..4).filter(|&right| holds(&index, user as u16, object as u16, right));
+    Ok(held.map(|right| 1 << right).sum::<u8>() & request as u8)
+}
+
+/// The full question: the number, and the rights held of those requested.
+pub fn rights(block: &[u8], user: u64, object: u64, request: u64) -> (u32, u32) {
+    match question(block, user, object, request) {
+        Ok(mask) => (0, mask.into()),
+        Err(number) => (number, 0),
+    }
+}
+
+/// The short question: the number, and 1 for yes or 0 for no.
+pub fn may(block: &[u8], user: u64, object: u64, request: u64) -> (u32, u32) {
+    match question(block, user, object, request) {
+        Ok(mask) => (0, (u64::from(mask) == request).into()),
+        Err(number) => (number, 0),
+    }
+}
+
+/// The text of a set.
+pub fn text(set: &BTreeMap<u16, Counts>) -> Vec<u8> {
+    let record = |(id, counts): (&u16, &Counts)| {
+        let pieces = counts.iter().zip(LETTERS).map(|(&n, &letter)| match n {
+            0 => String::new(),
+            1 => (letter as char).to_string(),
+            n => format!("{}{n}", letter as char),
+        });
+        format!("{id};{}", pieces.collect::<String>())
+    };
+    set.iter().map(record).collect::<Vec<_>>().join(";").into_bytes()
+}
+
+fn set_of(part: &Part, key: u16) -> BTreeMap<u16, Counts> {
+    part.range((key, 0)..=(key, u16::MAX)).map(|(&(_, id), &c)| (id, c)).collect()
+}
+
+fn located(block: &[u8], kind: u64, key: u64) -> Result<(Index, usize, u16), u32> {
+    let index = Index::decode(block)?;
+    if !(1..=3).contains(&kind) {
+        return Err(3);
+    }
+    if key > 1023 {
+        return Err(4);
+    }
+    Ok((index, kind as usize - 1, key as u16))
+}
+
+/// write: the number, the length of the text, and the output buffer then.
+pub fn write(block: &[u8], kind: u64, key: u64, out: &[u8]) -> (u32, u32, Vec<u8>) {
+    let mut after = out.to_vec();
+    match located(block, kind, key) {
+        Err(number) => (number, 0, after),
+        Ok((index, kind, key)) => {
+            let text = text(&set_of(&index.parts[kind], key));
+            if text.len() > out.len() {
+                return (10, 0, after);
+            }
+            after[..text.len()].copy_from_slice(&text);
+            (0, text.len() as u32, after)
+        }
+    }
+}
+
+/// The set that a text is of: it is split at the semicolons, read loosely, and then written again, which must give the same
+/// text. So a leading zero, a count of 1 or a letter out of order is refused without a rule for each.
+pub fn parse(text: &[u8], kind: usize) -> Option<BTreeMap<u16, Counts>> {
+    let mut set = BTreeMap::new();
+    if text.is_empty() {
+        return Some(set);
+    }
+    let words: Vec<&str> = std::str::from_utf8(text).ok()?.split(';').collect();
+    for pair in words.chunks(2) {
+        let [id, pieces] = pair else { return None };
+        let id: u16 = id.parse().ok().filter(|&id| id < 1024)?;
+        let mut counts: Counts = [0; 8];
+        let mut rest = *pieces;
+        while let Some(letter) = rest.bytes().next() {
+            let k = LETTERS.iter().position(|&l| l == letter)?;
+            let digits = rest[1..].bytes().take_while(u8::is_ascii_digit).count();
+            counts[k] = if digits == 0 { 1 } else { rest[1..=digits].parse().ok()? };
+            rest = &rest[1 + digits..];
+        }
+        if counts == [0; 8] || (kind != 1 && counts[4..] != [0; 4]) || set.insert(id, counts).is_some() {
+            return None;
+        }
+    }
+    (self::text(&set) == text).then_some(set)
+}
+
+/// read: the number, how many records the set has, and the block then.
+pub fn read(block: &[u8], kind: u64, key: u64, text: &[u8]) -> (u32, u32, Vec<u8>) {
+    let outcome = located(block, kind, key).and_then(|(mut index, kind, key)| {
+        let set = parse(text, kind).ok_or(9u32)?;
+        index.parts[kind].retain(|&(k, _), _| k != key);
+        if index.records() + set.len() > index.room() {
+            return Err(8);
+        }
+        index.parts[kind].extend(set.iter().map(|(&id, &counts)| ((key, id), counts)));
+        Ok((set.len() as u32, index.encode()))
+    });
+    match outcome {
+        Ok((records, block)) => (0, records, block),
+        Err(number) => (number, 0, block.to_vec()),
+    }
+}
+
+/// What the program `standing` prints for an input.
+pub fn standing(input: &[u8]) -> Vec<u8> {
+    let mut block = make(&vec![0; GREATEST]).1;
+    let mut printed = Vec::new();
+    for (n, piece) in input.chunks(12).enumerate() {
+        let (number, after) = message(&block, piece);
+        block = after;
+        if number != 0 {
+            printed.extend(format!("message {} refused {number}\n", n + 1).bytes());
+        }
+    }
+    let index = Index::decode(&block).expect("a good block");
+    for (part, letter) in index.parts.iter().zip("MPF".chars()) {
+        let keys: BTreeSet<u16> = part.keys().map(|&(key, _)| key).collect();
+        for key in keys {
+            printed.extend(format!("{letter}{key} ").bytes());
+            printed.extend(text(&set_of(part, key)));
+            printed.push(b'\n');
+        }
+    }
+    printed
+}
+
+#[cfg(test)]
+mod tests;
