@@ -1,0 +1,4 @@
+mod Decimals
+mod Fronts
+mod SetLines
+mod Goes
