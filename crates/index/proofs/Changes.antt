@@ -4,7 +4,7 @@ use mathlib.Core.Path.{_≡_, refl, _∙_, sym}
 use mathlib.Core.List.{List}
 use mathlib.Core.Logic.{⊎-elim}
 use native.Mathlib.Omega.{arith}
-use lib.ListN.{length, getD}
+use lib.ListN.{getD}
 use Rattle.index.specs.declared.Kind.{Kind}
 use Rattle.index.specs.declared.Kind.the-variants.{Membership, Permission, Filter}
 use Rattle.index.specs.Letters.{letterCount}
@@ -15,19 +15,8 @@ use Rattle.index.specs.Message.{Change, Changed, taken, added}
 use Rattle.index.specs.Places.{spot, At, Gap}
 use Rattle.index.proofs.HalfLetters.{Hits, hits, halfOf, change-none}
 use Rattle.index.proofs.Range.{lt-or-le}
-use Rattle.index.proofs.Records.{rises, count-at, count-none}
+use Rattle.index.proofs.Records.{one-kind, rises, count-at, count-none}
 use Rattle.index.proofs.Splice.{spliced-records, spliced-good, spliced-stays, spliced-gone, spliced-of}
-
-one-kind : (K L : Kind) (b : List ℕ) (i : ℕ) → Of b K i → Of b L i → K ≡ L
-one-kind Membership Membership b i o p = refl
-one-kind Membership Permission b i o p = absurd (omega arith)
-one-kind Membership Filter b i o p = absurd (omega arith)
-one-kind Permission Membership b i o p = absurd (omega arith)
-one-kind Permission Permission b i o p = refl
-one-kind Permission Filter b i o p = absurd (omega arith)
-one-kind Filter Membership b i o p = absurd (omega arith)
-one-kind Filter Permission b i o p = absurd (omega arith)
-one-kind Filter Filter b i o p = refl
 
 same-at : {K L : Kind} {x y x′ y′ i : ℕ} {b : List ℕ} → At b K x y i → At b L x′ y′ i → (K ≡ L) × (x ≡ x′) × (y ≡ y′)
 same-at {K} {L} {i = i} {b} a c =

@@ -12,7 +12,7 @@ use lib.ListN.{length, getD, List·getD-eq-default}
 use Rattle.index.specs.declared.Kind.{Kind}
 use Rattle.index.specs.declared.Kind.the-variants.{Membership, Permission, Filter}
 use Rattle.index.specs.Letters.{letterCount, lettersOf}
-use Rattle.index.specs.Block.{number, place, countAt, from, size, records, Before, Good}
+use Rattle.index.specs.Block.{place, countAt, from, size, records, Before, Good}
 use Rattle.index.specs.Checks.{Says, Header, Counted, Record, Part, Zero}
 use Rattle.index.specs.Edits.{fourAt}
 use Rattle.index.proofs.Bytes.{count-out}

@@ -7,54 +7,20 @@ use native.Mathlib.Omega.{arith}
 use lib.ListN.{getD}
 use Rattle.index.specs.declared.Kind.{Kind}
 use Rattle.index.specs.Letters.{letterCount, lettersOf}
-use Rattle.index.specs.Block.{headerLength, number, size, records, place, key, id, countAt, Good}
-use Rattle.index.specs.Bytes.{Inside, Spliced}
-use Rattle.index.specs.Checks.{Header, Counted, Record}
+use Rattle.index.specs.Block.{records, place, key, id, countAt, Good}
+use Rattle.index.specs.Bytes.{Spliced}
+use Rattle.index.specs.Checks.{Counted, Record}
 use Rattle.index.specs.Message.{Half, Masked, Change, Changed}
 use Rattle.index.specs.Message.Change.{take, add}
 use Rattle.index.specs.Places.{At, Gap}
 use Rattle.index.specs.Edits.{bit, Recounted, Written, Ready}
 use Rattle.index.proofs.Bytes.{number-below, count-out, inside-wide}
 use Rattle.index.proofs.Changes.{old-one, old-none, new-one, new-none, changed-records, changed-is}
-use Rattle.index.proofs.Checked.{header-of, each-kind}
+use Rattle.index.proofs.Checked.{header-of}
 use Rattle.index.proofs.HalfLetters.{bit-zero, no-letter, some-letter, masked-byte, halfOf, lessOf, moreOf, change-own, more-none}
 use Rattle.index.proofs.Range.{lt-or-le}
 use Rattle.index.proofs.Splice.{good-record}
-
--- ---- a splice, and then other bytes of the records that came
-
-module _ {lo hi : ℕ} {b b′ : List ℕ} (w : Inside lo hi b b′) (l : headerLength ≤ lo) where
-  same : (t : ℕ) → t + 1 < headerLength → number b′ t ≡ number b t
-  same t h = number-below w t (omega arith)
-
-  same-size : (K : Kind) → size b′ K ≡ size b K
-  same-size = each-kind (λ K. size b′ K ≡ size b K) (same 0 (omega arith)) (same 2 (omega arith)) (same 4 (omega arith))
-
-  same-header : Header b → Header b′
-  same-header h =
-      let m = same 0 (omega arith) in
-      let p = same 2 (omega arith) in
-      let f = same 4 (omega arith) in
-      record {
-        zero-at-6 = same 6 (omega arith) ∙ h .zero-at-6;
-        m-offset = same 8 (omega arith) ∙ h .m-offset;
-        p-offset = omega (arith, same 10 (omega arith), h .p-offset);
-        f-offset = omega (arith, same 12 (omega arith), h .f-offset);
-        end-offset = omega (arith, same 14 (omega arith), h .end-offset);
-        fits = omega (arith, w .same-length, h .fits);
-      }
-
-pub spliced-then : {K : Kind} {j n m : ℕ} {b b₁ b₂ : List ℕ} → Spliced K j n m b b₁ → Inside (place j) (place (j + m)) b₁ b₂
-    → Spliced K j n m b b₂
-spliced-then {K} s w =
-    record {
-      same-length = w .same-length ∙ s .same-length;
-      below = λ t l h. w .below t h ∙ s .below t l h;
-      moved = λ t. w .above _ (omega arith) ∙ s .moved t;
-      own = omega (arith, same-size w (omega arith) K, s .own);
-      other = λ L ne. same-size w (omega arith) L ∙ s .other L ne;
-      header = same-header w (omega arith) (s .header);
-    }
+use Rattle.index.proofs.SpliceThen.{spliced-then}
 
 spliced-same : {b : List ℕ} → Good b → (K : Kind) (j n : ℕ) → Spliced K j n n b b
 spliced-same g K j n =

@@ -1,16 +1,16 @@
 -- Bytes are written one after the other.
 use Prim.Native.Nat.{ℕ, _+_, _-_, _<_, _≤_}
-use mathlib.Core.Path.{_≡_, refl, _∙_, sym, subst}
+use mathlib.Core.Path.{_≡_, _∙_, sym}
 use mathlib.Core.List.{List}
-use mathlib.Core.Logic.{_⊎_, inl, inr, ⊎-elim}
+use mathlib.Core.Logic.{⊎-elim}
 use native.Mathlib.Decide.{ℕ-discrete}
 use native.Mathlib.Omega.{arith}
 use lib.ListN.{length, getD, set, length-set}
 use lib.Seq.{getD-set-same, getD-set-other}
-use Rattle.index.specs.Bytes.{Inside, Shifted}
+use Rattle.index.specs.Bytes.{Shifted}
 use Rattle.index.specs.Checks.{Zero}
 use Rattle.index.specs.Edits.{Filled}
-use Rattle.index.proofs.Bytes.{inside-none, inside-then, inside-wide}
+use Rattle.index.proofs.Bytes.{inside-none}
 use Rattle.index.proofs.Range.{lt-or-le}
 
 pub filled-none : (lo : ℕ) (f : ℕ → ℕ) (b : List ℕ) → Filled lo lo f b b

@@ -6,10 +6,9 @@ use mathlib.Core.Logic.{⊎-elim}
 use native.Mathlib.Nat.{eq-or-lt-of-le}
 use native.Mathlib.Omega.{arith}
 use Rattle.index.specs.declared.Kind.{Kind}
-use Rattle.index.specs.Block.{IsName, key, id, from, size, Of, Good}
+use Rattle.index.specs.Block.{IsName, from, size, Of, Good}
 use Rattle.index.specs.Edits.{Lowest}
 use Rattle.index.specs.Places.{spot, At, Gap}
-use Rattle.index.proofs.Range.{lt-or-le}
 use Rattle.index.proofs.Records.{of-records, no-lower}
 
 -- Of the records first to end - 1, those before number lo stand below `want`, and those from number hi on do not.

@@ -1,12 +1,12 @@
 -- The letters of a mask, and the record that a half names.
-use Prim.Native.Nat.{ℕ, _+_, _/_, _%_, _^_, _<_, _≤_}
+use Prim.Native.Nat.{ℕ, _/_, _%_, _^_, _<_, _≤_}
 use mathlib.Core.Path.{_≡_, refl, sym, ap, _∙_}
 use mathlib.Core.Bool.{Bool, true, false, cond, _&&_}
-use mathlib.Core.Logic.{_⊎_, inl, inr, ⊎-elim}
+use mathlib.Core.Logic.{_⊎_, inl, inr}
 use native.Mathlib.Decide.{ℕ-discrete}
 use native.Mathlib.Nat.{zero-div, div-eq-of-lt, pow-le-pow-right}
 use native.Mathlib.Omega.{arith}
-use borrow.Author.Tests.{eqb-true, eq-eqb, ne-eqb}
+use borrow.Author.Tests.{eqb-true, eq-eqb}
 use lib.Dec.{eqb}
 use Rattle.index.specs.declared.Kind.{Kind}
 use Rattle.index.specs.declared.Kind.the-variants.{Membership, Permission, Filter}
@@ -14,7 +14,7 @@ use Rattle.index.specs.Letters.{letterCount, lettersOf}
 use Rattle.index.specs.Message.{kindOf, kindNumber, Half, Masked, Change, moves, taken, added}
 use Rattle.index.specs.Message.Change.{take, add}
 use Rattle.index.specs.Edits.{bit}
-use Rattle.index.proofs.Tests.{all, all-at, some, some-at}
+use Rattle.index.proofs.Tests.{all-at, some, some-at}
 
 -- ---- masks
 

@@ -16,10 +16,10 @@ pub mod Filling
 pub mod Finding
 pub mod Firsts
 pub mod GoodTest
+pub mod HalfLetters
 pub mod Halves
 pub mod IsSet
 pub mod Joining
-pub mod HalfLetters
 pub mod Masks
 pub mod MessageTest
 pub mod MillHistory
@@ -32,6 +32,7 @@ pub mod ReadLetters
 pub mod ReadNumbers
 pub mod ReadSets
 pub mod ReadSteps
+pub mod RecordWritten
 pub mod Records
 pub mod Recount
 pub mod Replacing
@@ -57,4 +58,3 @@ pub mod ThreeKinds
 pub mod Unchanged
 pub mod WriteAccepted
 pub mod Writes
-pub mod RecordWritten

@@ -39,7 +39,7 @@ no-count none y k h = unfold countIn in refl
 no-count (next {e = e} {es = es} i l r) y k h = count-later e es y k (λ q. omega arith) ∙ no-count r y k (omega arith)
 
 -- A record of a set has a letter that is counted.
-some-letter : {kind : Kind} {e : Entry} → IsEntry kind e → (k : ℕ) × (k < letterCount) × (0 < getD (e .counts) k 0)
+pub some-letter : {kind : Kind} {e : Entry} → IsEntry kind e → (k : ℕ) × (k < letterCount) × (0 < getD (e .counts) k 0)
 some-letter {e = e} i =
     let (k, c) = i .counted in (
       k,

@@ -8,7 +8,7 @@ use lib.Dec.{eqb, ltb}
 use native.Mathlib.Omega.{arith}
 use borrow.Author.Tests.{lt-ltb, ltb-true, eqb-true}
 use Rattle.index.specs.declared.Kind.{Kind}
-use Rattle.index.specs.Letters.{letters, lettersOf}
+use Rattle.index.specs.Letters.{letterCount, letters, lettersOf}
 use Rattle.index.specs.Text.{Entry, decimal, piecesOf, entryText, textOf, IsEntry, IsSet, Writes}
 use Rattle.index.specs.Reading.{Read, andThen, readNumber, readCounts, readMark, total, readRecord, readMore, readRecords, parse}
 use Rattle.index.specs.Reading.Read.{got}
@@ -43,7 +43,7 @@ mark-sound (b ∷ t) {m} {r} e =
     let q : t ≡ r = cc in
     cc
 
-pub eight-letters : length letters ≡ 8
+pub eight-letters : length letters ≡ letterCount
 unfolding letters
 eight-letters = refl
 

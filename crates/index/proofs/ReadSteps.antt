@@ -5,7 +5,7 @@ use mathlib.Core.Bool.{Bool, true, false, _&&_}
 use mathlib.Core.List.{List, [], _∷_, _++_, append-assoc, append-nil}
 use lib.ListN.{length, take, drop, getD, set, drop-of-length-le}
 use lib.Seq.{drop-cons, take-suc-set, take-all}
-use Rattle.index.specs.Letters.{letters}
+use Rattle.index.specs.Letters.{letterCount, letters}
 use lib.Dec.{ltb, leb}
 use native.Mathlib.Numerals.{add-one}
 use borrow.Author.Tests.{lt-ltb, le-leb, lt-leb, eq-eqb, ne-eqb}
@@ -154,11 +154,11 @@ total-from cs k = rw add-one (go cs k)
     go (c ∷ cs) (suc k) = go cs k
 
 -- ---- the counts of a record
-letters-from : (k : ℕ) → k < 8 → drop k letters ≡ getD letters k 0 ∷ drop (k + 1) letters
+letters-from : (k : ℕ) → k < letterCount → drop k letters ≡ getD letters k 0 ∷ drop (k + 1) letters
 unfolding letters
 letters-from k h = front letters k h
 
-module _ (may k : ℕ) (h : k < 8) (t : List ℕ) where
+module _ (may k : ℕ) (h : k < letterCount) (t : List ℕ) where
   counts-wrong : (s : List ℕ) → readLetter (ltb 0 (may - k)) (getD letters k 0) t ≡ wrong s → readCounts (may - k) (drop k letters) t ≡ wrong s
   unfolding readCounts
   counts-wrong s e = rw (letters-from k h) (simp e)
@@ -186,18 +186,18 @@ after-next out k n (got cs r) h =
     ∙ ap (λ (l : List ℕ). l ++ cs) (sym (take-suc-set out k n h)) ∙ ap (λ (j : ℕ). take j (set out k n) ++ cs) (sym (add-one k)))
 after-next out k n (wrong s) h = refl
 
-module _ (out : List ℕ) (may k : ℕ) (h : k < 8) (t : List ℕ) where
+module _ (out : List ℕ) (may k : ℕ) (h : k < letterCount) (t : List ℕ) where
   pub after-wrong : (s : List ℕ) → readLetter (ltb 0 (may - k)) (getD letters k 0) t ≡ wrong s
       → after out k (readCounts (may - k) (drop k letters) t) ≡ wrong s
   after-wrong s e = ap (after out k) (counts-wrong may k h t s e)
 
-  pub after-more : (n : ℕ) (r : List ℕ) → length out ≡ 8 → readLetter (ltb 0 (may - k)) (getD letters k 0) t ≡ got n r
+  pub after-more : (n : ℕ) (r : List ℕ) → length out ≡ letterCount → readLetter (ltb 0 (may - k)) (getD letters k 0) t ≡ got n r
       → after out k (readCounts (may - k) (drop k letters) t)
       ≡ after (set out k n) (k + 1) (readCounts (may - (k + 1)) (drop (k + 1) letters) r)
   after-more n r l e =
       ap (after out k) (counts-next may k h t n r e) ∙ after-next out k n (readCounts (may - (k + 1)) (drop (k + 1) letters) r) (omega arith)
 
-pub after-all : (out : List ℕ) (n k : ℕ) (t : List ℕ) → length out ≡ 8 → k ≡ 8 → after out k (readCounts n (drop k letters) t) ≡ got out t
+pub after-all : (out : List ℕ) (n k : ℕ) (t : List ℕ) → length out ≡ letterCount → k ≡ letterCount → after out k (readCounts n (drop k letters) t) ≡ got out t
 unfolding readCounts letters
 after-all out n k t l e =
     rw e (ap (λ (x : List ℕ). got x t) (append-nil (take 8 out) ∙ take-all 8 out (omega arith)))

@@ -1,12 +1,12 @@
 -- A record is written: its key, its id and its counts.
-use Prim.Native.Nat.{ℕ, _+_, _*_, _<_, _≤_}
+use Prim.Native.Nat.{ℕ, _+_, _*_, _<_}
 use mathlib.Core.Path.{_≡_, _∙_}
 use mathlib.Core.List.{List}
 use native.Mathlib.Omega.{arith}
 use Rattle.index.specs.Letters.{letterCount}
 use Rattle.index.specs.Block.{recordLength, number, place, countAt}
 use Rattle.index.specs.Bytes.{Put}
-use Rattle.index.specs.Edits.{bit, Filled, Recounted, Written, Allows}
+use Rattle.index.specs.Edits.{Filled, Recounted, Written, Allows}
 use Rattle.index.proofs.Bytes.{count-number, inside-then, inside-wide, number-below}
 use Rattle.index.proofs.HalfLetters.{bit-zero}
 

@@ -36,6 +36,18 @@ kind-of b i l =
     (λ h. ⊎-elim (λ k. (Permission, omega arith)) (λ k. (Filter, omega arith)) (lt-or-le i (from b Filter)))
     (lt-or-le i (size b Membership))
 
+-- A record is of one kind.
+pub one-kind : (K L : Kind) (b : List ℕ) (i : ℕ) → Of b K i → Of b L i → K ≡ L
+one-kind Membership Membership b i o p = refl
+one-kind Membership Permission b i o p = absurd (omega arith)
+one-kind Membership Filter b i o p = absurd (omega arith)
+one-kind Permission Membership b i o p = absurd (omega arith)
+one-kind Permission Permission b i o p = refl
+one-kind Permission Filter b i o p = absurd (omega arith)
+one-kind Filter Membership b i o p = absurd (omega arith)
+one-kind Filter Permission b i o p = absurd (omega arith)
+one-kind Filter Filter b i o p = refl
+
 -- The end of a part is within the records.
 pub gap-in : (kind : Kind) (b : List ℕ) (i : ℕ) → i ≤ from b kind + size b kind → i ≤ records b
 gap-in Membership b i l = omega arith

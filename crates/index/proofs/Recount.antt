@@ -6,7 +6,7 @@ use mathlib.Core.Logic.{⊎-elim}
 use native.Mathlib.Decide.{ℕ-discrete}
 use native.Mathlib.Omega.{arith}
 use Rattle.index.specs.Letters.{letterCount}
-use Rattle.index.specs.Block.{number, place, countAt}
+use Rattle.index.specs.Block.{place, countAt}
 use Rattle.index.specs.Bytes.{Put, Inside}
 use Rattle.index.specs.Edits.{bit, Recounted}
 use Rattle.index.proofs.Bytes.{inside-none, inside-then, number-below, number-above, count-number}

@@ -4,10 +4,9 @@ use mathlib.Core.Path.{_≡_, refl, sym, ap, _∙_}
 use mathlib.Core.List.{List, [], _∷_}
 use mathlib.Core.Logic.{⊎-elim}
 use native.Mathlib.Omega.{arith}
-use lib.ListN.{length, getD, List·getD-eq-default}
+use lib.ListN.{length, getD}
 use Rattle.index.specs.declared.Kind.{Kind}
 use Rattle.index.specs.declared.Kind.the-variants.{Membership, Permission, Filter}
-use Rattle.index.specs.Letters.{letterCount}
 use Rattle.index.specs.Block.{IsName, id, countAt, countFrom, Of, Good, count}
 use Rattle.index.specs.Text.{Entry, setFrom, IsEntry, IsSet, countIn, Replaced}
 use Rattle.index.specs.Places.{spot, At}
@@ -16,12 +15,13 @@ use Rattle.index.specs.Bytes.{Spliced, Fits}
 use Rattle.index.specs.Edits.{Lowest}
 use Rattle.index.specs.Written.{Stands, entryOf, Filled}
 use Rattle.index.proofs.Range.{lt-or-le}
-use Rattle.index.proofs.Records.{found, not-found, once, where-is, count-at, count-none}
+use Rattle.index.proofs.Records.{one-kind, found, not-found, once, where-is, count-at, count-none}
 use Rattle.index.proofs.Splice.{spliced-good, spliced-of, spliced-stays, spliced-gone}
 use Rattle.index.proofs.SpliceThen.{spliced-then}
 use Rattle.index.proofs.ReadSets.{head-entry}
 use Rattle.index.proofs.Entering.{set-tail}
 use Rattle.index.proofs.SetRange.{bounds, key-below, key-within, key-above, set-here}
+use Rattle.index.proofs.OneSet.{some-letter}
 use Rattle.index.proofs.SetCounts.{counts-any, set-count}
 
 -- ---- the records of a set
@@ -48,16 +48,11 @@ module _ {b : List ℕ} {x i : ℕ} {e : Entry} (s : Stands b x i e) where
 
   stands-record : {kind : Kind} → IsName x → IsEntry kind e → Record b kind i
   stands-record n h =
-      let (k, c) = h .counted in
+      let (k, l, c) = some-letter h in
       record {
         key-below = omega (arith, s .has-key);
         id-below = omega (arith, stands-id, h .named);
-        counted = (
-          k,
-          ⊎-elim (λ l. l) (λ l. absurd (omega (arith, List·getD-eq-default (e .counts) 0 {n = k} (omega (arith, h .eight)))))
-              (lt-or-le k letterCount),
-          omega (arith, stands-count k),
-        );
+        counted = (k, l, omega (arith, stands-count k));
         allowed = λ k l. stands-count k ∙ h .allowed k l;
       }
 
@@ -72,17 +67,6 @@ stand-set b x i (e ∷ es) s =
     ∙ ap (λ (fs : List Entry). e ∷ fs)
     (stand-set b x (i + 1) es
     (λ j l. let w : i + suc j ≡ i + 1 + j = omega arith in rw w at (s (suc j) (omega arith))))
-
-one-kind : (K L : Kind) (b : List ℕ) (i : ℕ) → Of b K i → Of b L i → K ≡ L
-one-kind Membership Membership b i o p = refl
-one-kind Membership Permission b i o p = absurd (omega arith)
-one-kind Membership Filter b i o p = absurd (omega arith)
-one-kind Permission Membership b i o p = absurd (omega arith)
-one-kind Permission Permission b i o p = refl
-one-kind Permission Filter b i o p = absurd (omega arith)
-one-kind Filter Membership b i o p = absurd (omega arith)
-one-kind Filter Permission b i o p = absurd (omega arith)
-one-kind Filter Filter b i o p = refl
 
 -- ---- the set in its place
 

@@ -55,9 +55,6 @@ set-past [] i a h = refl
 set-past (x ∷ l) ℕ.zero a h = absurd (omega arith)
 set-past (x ∷ l) (suc i) a h = ap (λ (r : List ℕ). x ∷ r) (set-past l i a (omega arith))
 
-pub byte-in : (at v : ℕ) (out : List ℕ) → Puts at (v ∷ []) out (at + 1) (set out at v)
-byte-in at v out = record { ends = refl; buffer = refl }
-
 pub byte-past : (at v : ℕ) (out : List ℕ) → length out ≤ at → Puts at (v ∷ []) out (at + 1) out
 byte-past at v out h = record { ends = refl; buffer = sym (set-past out at v h) }
 

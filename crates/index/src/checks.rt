@@ -18,7 +18,7 @@ ghost use mathlib.Core.Path.{_≡_};
 ghost use Prim.Native.Nat.{_+_, _<_, _≤_};
 ghost use lib.ListN.{length};
 ghost use Rattle.index.specs.Letters.{letterCount, lettersOf};
-ghost use Rattle.index.specs.Block.{headerLength, place, countAt, from, size, records, Good};
+ghost use Rattle.index.specs.Block.{headerLength, place, from, size, records, Good};
 ghost use Rattle.index.specs.Edits.{fourAt};
 ghost use Rattle.index.specs.Checks.{Says, Header, Record, Part, Zero};
 ghost use Rattle.index.specs.Calls.{blockNeeds};

@@ -5,6 +5,7 @@ mod counts;
 mod doors;
 mod edits;
 mod entries;
+mod kinds;
 mod letters;
 mod making;
 mod messages;

@@ -3,9 +3,9 @@
 use crate::Kind;
 use crate::NAMES;
 use crate::checks::tested;
+use crate::kinds::kind_of;
 use crate::numbers::number_at;
 use crate::run::carry;
-use crate::run::kind_of;
 ghost use mathlib.Core.Path.{_≡_};
 ghost use mathlib.Core.List.{_++_};
 ghost use Prim.Native.Nat.{_+_, _^_, _≤_};
@@ -101,7 +101,7 @@ fn mask_good(m: &[u8], i: usize, absent: u8) -> bool
     if mask == 0 {
         return false;
     }
-    if mask >= mask_end(kind_of(m[0] as usize)) {
+    if mask >= mask_end(kind_of(m[0] as u64)) {
         return false;
     }
     true

@@ -3,6 +3,7 @@
 use crate::Kind;
 use crate::edits::put_in;
 use crate::edits::take_away;
+use crate::kinds::kind_of;
 use crate::numbers::number_at;
 ghost use mathlib.Core.Path.{_≡_};
 ghost use Prim.Native.Nat.{_+_, _≤_};
@@ -10,19 +11,6 @@ ghost use lib.ListN.{length};
 ghost use Rattle.index.specs.Message.{kindOf, halfAt, changes, Carried};
 ghost use Rattle.index.specs.Message.Change.{add};
 ghost use Rattle.index.specs.Edits.{half, Ready, Step, TakenAway, Runs, Tested};
-
-// The kind that the numbers 1, 2 and 3 stand for.
-pub fn kind_of(n: usize) -> Kind
-    ensures { λ r. ⌜ r ≡ kindOf n ⌝ }
-{
-    if n == 1 {
-        return Kind::Membership;
-    }
-    if n == 2 {
-        return Kind::Permission;
-    }
-    Kind::Filter
-}
 
 // A half of a message, with the message's kind.
 struct Half {
@@ -37,7 +25,7 @@ fn half_at(m: &[u8], i: usize) -> Half
     requires { ⌜ i + 5 ≤ length (now m) ⌝ }
     ensures { λ r. ⌜ half (r .kind) (r .x) (r .y) (r .mask) ≡ halfAt (now (m .entry)) i ⌝ }
 {
-    let kind = kind_of(m[0] as usize);
+    let kind = kind_of(m[0] as u64);
     let x = number_at(m, i);
     let y = number_at(m, i + 2);
     let mask = m[i + 4] as usize;

@@ -7,6 +7,7 @@ use crate::RECORD;
 use crate::Took;
 use crate::Wrote;
 use crate::checks::tested;
+use crate::kinds::kind_of;
 use crate::moves::splice;
 use crate::places::first_of;
 use crate::places::place_of;
@@ -21,21 +22,7 @@ ghost use lib.Dec.{leb};
 ghost use lib.ListN.{length};
 ghost use Rattle.index.specs.Numbers.{Answers};
 ghost use Rattle.index.specs.Block.{headerLength, records, room};
-ghost use Rattle.index.specs.Message.{kindOf};
 ghost use Rattle.index.specs.Calls.{setNeeds, Wrotes, Tooks};
-
-// The kind with this number.
-fn kind_of(n: u64) -> Kind
-    ensures { λ r. ⌜ r ≡ kindOf n ⌝ }
-{
-    if n == 1 {
-        return Kind::Membership;
-    }
-    if n == 2 {
-        return Kind::Permission;
-    }
-    Kind::Filter
-}
 
 // The tests that both calls run first.
 fn set_refused(block: &[u8], kind: u64, key: u64) -> u8

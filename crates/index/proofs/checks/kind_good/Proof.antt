@@ -7,7 +7,10 @@ use Rattle.index.proofs.checks.kind_good.Statement.{statement}
 use Rattle.index.proofs.checks.kind_good.Tie as tie
 
 part-good-requires : tie.Need-part-good-requires
-part-good-requires c κs = omega (arith, gap-in (c .before .before .before .args .kind) (c .before .before .before .args .b .now) (c .before .first-of .result + c .size-at .result) (omega arith))
+part-good-requires c κs =
+    let s = c .before .before .before in
+    omega
+    (arith, gap-in (s .args .kind) (s .args .b .now) (c .before .first-of .result + c .size-at .result) (omega arith))
 
 returns : tie.Need-returns
 returns c = rw (← c .before .before .first-of .ensures .0, ← c .before .size-at .ensures .is) (c .part-good .ensures)

@@ -5,7 +5,7 @@ use mathlib.Core.Logic.{⊎-elim}
 use native.Mathlib.Nat.{eq-or-lt-of-le}
 use native.Mathlib.Omega.{arith}
 use borrow.Author.Needs.{needs}
-use Rattle.index.specs.Checks.{Record, Part}
+use Rattle.index.specs.Checks.{Part}
 use Rattle.index.specs.Places.{spot}
 use Rattle.index.proofs.Answer.{yes-not, no-not}
 use Rattle.index.proofs.Checked.{part-none, part-more, part-less}
@@ -28,10 +28,12 @@ loop-holds c = (search needs, part-none _ _ _, λ _. search needs, λ m l e. abs
 
 returns : tie.Need-returns Inv-loop μ-loop
 returns c =
-    λ p. no-not (c .before .record-good .result) (c .if1 .taken) (p .each (c .before .before .before .loop .n) (search needs) (search needs)) (c .before .record-good .ensures)
+    λ p. no-not (c .before .record-good .result) (c .if1 .taken)
+    (p .each (c .before .before .before .loop .n) (search needs) (search needs)) (c .before .record-good .ensures)
 
 returns-2 : tie.Need-returns-2 Inv-loop μ-loop
 returns-2 c =
+    let s = c .before .before .before .before .before .before .before in
     λ p.
     let n = c .before .before .before .before .before .loop .n in
     let inv = c .before .before .before .before .before .loop .inv in
@@ -39,15 +41,16 @@ returns-2 c =
     (λ l.
     let e : n - 1 + 1 ≡ n = omega arith in
     let r = p .each (n - 1) (omega arith) (search needs) in
-    let s : spot (c .before .before .before .before .before .before .before .args .b .now) (n - 1) < spot (c .before .before .before .before .before .before .before .args .b .now) n =
+    let s : spot (s .args .b .now) (n - 1) < spot (s .args .b .now) n =
     rw e at (before-spot _ (n - 1) (n - 1 + 1) (r .id-below) (p .rising (n - 1) (omega arith) (search needs))) in
     omega (arith, inv .3 (n - 1) (omega arith) e))
     (eq-or-lt-of-le (inv .0))
 
 loop-again : tie.Need-loop-again Inv-loop μ-loop
 loop-again c =
+    let record-good = c .before .before .before .record-good in
     let inv = c .before .before .before .before .before .loop .inv in
-    let r = yes-not (c .before .before .before .record-good .result) (c .before .before .if1 .left) (c .before .before .before .record-good .ensures) in (
+    let r = yes-not (record-good .result) (c .before .before .if1 .left) (record-good .ensures) in (
       search needs,
       part-more (inv .1) r
           (λ m l e.

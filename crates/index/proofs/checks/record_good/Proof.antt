@@ -15,13 +15,15 @@ returns-4 c =
       key-below = search needs;
       id-below = search needs;
       counted = counted-of _ _ (omega arith);
-      allowed = λ k l. small-none _ _ (omega arith) k (omega (arith, four-letters (c .before .before .before .before .before .before .before .before .before .args .kind)));
+      allowed = λ k l. small-none _ _ (omega arith) k
+          (omega (arith, four-letters (c .before .before .before .before .before .before .before .before .before .args .kind)));
     }
 
 returns-5 : tie.Need-returns-5
 returns-5 c =
     λ r.
-    not-allowed _ _ (omega arith) (λ k l. r .allowed k (omega (arith, letters-four (c .before .before .before .before .before .before .before .before .before .before .before .args .kind) (omega arith))))
+    not-allowed _ _ (omega arith)
+    (λ k l. r .allowed k (omega (arith, letters-four (c .before .before .before .before .before .before .before .before .before .before .before .args .kind) (omega arith))))
 
 returns-6 : tie.Need-returns-6
 returns-6 c =

@@ -19,11 +19,14 @@ returns-2 c = inl (λ s. omega arith, refl)
 
 returns-3 : tie.Need-returns-3
 unfolding blockNeeds Sized
-returns-3 c = inr (omega arith, inl (λ g. no-not (c .before .good2 .result) (c .if3 .taken) g (c .before .good2 .ensures), refl))
+returns-3 c =
+    inr
+    (omega arith, inl (λ g. no-not (c .before .good2 .result) (c .if3 .taken) g (c .before .good2 .ensures), refl))
 
 returns-4 : tie.Need-returns-4
 unfolding blockNeeds Sized
-returns-4 c = inr (omega arith, inr (yes-not (c .before .good2 .result) (c .if3 .left) (c .before .good2 .ensures), refl))
+returns-4 c =
+    inr (omega arith, inr (yes-not (c .before .good2 .result) (c .if3 .left) (c .before .good2 .ensures), refl))
 
 pub tested-spec : {M : Type 1} → statement M
 tested-spec = tie.close (tie.spec returns returns-2 (λ c κs. search needs) returns-3 returns-4)

@@ -27,7 +27,8 @@ returns-2 : tie.Need-returns-2 Inv-loop μ-loop
 returns-2 c = λ all. omega (arith, all (c .before .before .before .before .before .before .loop .k) (search needs))
 
 loop-again : tie.Need-loop-again Inv-loop μ-loop
-loop-again c = (search needs, below-more _ _ (c .before .before .before .before .before .before .loop .inv .1) (omega arith))
+loop-again c =
+    (search needs, below-more _ _ (c .before .before .before .before .before .before .loop .inv .1) (omega arith))
 
 returns-3 : tie.Need-returns-3 Inv-loop μ-loop
 returns-3 c = λ k l. c .before .loop .inv .1 k (omega arith)

@@ -37,7 +37,8 @@ loop-again : tie.Need-loop-again Inv-loop μ-loop
 loop-again c =
     let d = c .before .before .before .before .before .before .before .before .before .loop .inv .1 in
     let k = c .before .before .before .before .before .before .before .before .before .loop .k in
-    let a = c .before .before .before .before .before .before .before .before .before .before .before .pre .1 k (search needs) in
+    let a = c .before .before .before .before .before .before .before .before .before .before .before .pre .1 k
+    (search needs) in
     (search needs, stepped d (search needs) (c .before .before .put-count .ensures) (omega (arith, d .still k (omega arith) (search needs))))
 
 returns : tie.Need-returns Inv-loop μ-loop

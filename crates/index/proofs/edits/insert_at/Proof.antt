@@ -12,23 +12,31 @@ abbrev h : tie.Start → Half
 h c = half (c .args .kind) (c .args .x) (c .args .y) (c .args .mask)
 
 returns : tie.Need-returns
-returns c = add-no-room (h (c .before .before .before .before)) (c .before .before .before .before .pre .1) (omega (arith, c .before .before .before .before .pre .0 .good .end-offset))
+returns c =
+    let s = c .before .before .before .before in
+    add-no-room (h s) (s .pre .1) (omega (arith, s .pre .0 .good .end-offset))
 
 splice-requires : tie.Need-splice-requires
-splice-requires c κs = opens-none (c .before .before .before .before .before .pre .0) (c .before .before .before .before .before .pre .1) (omega (arith, c .before .before .before .before .before .pre .0 .good .end-offset))
+splice-requires c κs =
+    let s = c .before .before .before .before .before in
+    opens-none (s .pre .0) (s .pre .1) (omega (arith, s .pre .0 .good .end-offset))
 
 put-record-requires : tie.Need-put-record-requires
-put-record-requires c κs = (
-  omega
-      (arith, gap-in (c .before .before .before .before .before .before .before .before .before .args .kind) (c .before .before .before .before .before .before .before .before .before .args .b .now) (c .before .before .before .before .before .before .before .before .before .args .i) (c .before .before .before .before .before .before .before .before .before .pre .1 .high), c .before .before .before .before .before .before .before .before .before .pre .0 .good .end-offset, c .before .before .before .splice .ensures .same-length),
-  search needs,
-  search needs,
-)
+put-record-requires c κs =
+    let s = c .before .before .before .before .before .before .before .before .before in (
+      omega
+          (arith, gap-in (s .args .kind) (s .args .b .now) (s .args .i) (s .pre .1 .high), s .pre .0 .good .end-offset, c .before .before .before .splice .ensures .same-length),
+      search needs,
+      search needs,
+    )
 
 returns-2 : tie.Need-returns-2
 returns-2 c =
-    added-inserted (h (c .before .before .before .before .before .before .before .before .before .before .before .before)) (c .before .before .before .before .before .before .before .before .before .before .before .before .pre .0) (λ t. omega (arith, c .slice-known3 .given t)) (c .before .before .before .before .before .before .before .before .before .before .before .before .pre .1)
-    (omega (arith, c .before .before .before .before .before .before .before .before .before .before .before .before .pre .0 .good .end-offset))
+    let s = c .before .before .before .before .before .before .before .before .before .before .before .before in
+    added-inserted
+    (h s)
+    (s .pre .0) (λ t. omega (arith, c .slice-known3 .given t)) (s .pre .1)
+    (omega (arith, s .pre .0 .good .end-offset))
     (c .before .before .before .before .before .before .splice .ensures)
     (c .before .before .put-record .ensures)
 

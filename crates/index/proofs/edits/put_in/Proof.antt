@@ -14,31 +14,50 @@ abbrev h : tie.Start → Half
 h c = half (c .args .kind) (c .args .x) (c .args .y) (c .args .mask)
 
 there : (c : tie.After-known-told) → At (c .before .before .before .before .before .before .args .b .now) (c .before .before .before .before .before .before .args .kind) (c .before .before .before .before .before .before .args .x) (c .before .before .before .before .before .before .args .y) (c .before .i .given .0 .0)
-there c = subst (Finds (c .before .before .before .before .before .before .args .b .now) (c .before .before .before .before .before .before .args .kind) (c .before .before .before .before .before .before .args .x) (c .before .before .before .before .before .before .args .y)) (c .before .i .given .1) (c .before .before .before .find .ensures)
+there c =
+    let s = c .before .before .before .before .before .before in
+    subst (Finds (s .args .b .now) (s .args .kind) (s .args .x) (s .args .y)) (c .before .i .given .1)
+    (c .before .before .before .find .ensures)
 
 missing : (c : tie.After-known-told2) → Gap (c .before .before .before .before .before .before .args .b .now) (c .before .before .before .before .before .before .args .kind) (c .before .before .before .before .before .before .args .x) (c .before .before .before .before .before .before .args .y) (c .before .i2 .given .0 .0)
-missing c = subst (Finds (c .before .before .before .before .before .before .args .b .now) (c .before .before .before .before .before .before .args .kind) (c .before .before .before .before .before .before .args .x) (c .before .before .before .before .before .before .args .y)) (c .before .i2 .given .1) (c .before .before .before .find .ensures)
+missing c =
+    let s = c .before .before .before .before .before .before in
+    subst (Finds (s .args .b .now) (s .args .kind) (s .args .x) (s .args .y)) (c .before .i2 .given .1)
+    (c .before .before .before .find .ensures)
 
 allows-requires : tie.Need-allows-requires
-allows-requires c κs = of-inside (c .before .before .before .before .before .before .before .pre .good) (c .before .before .before .before .before .before .before .args .kind) (c .before .before .i .given .0 .0) (there (c .before) .of)
+allows-requires c κs =
+    let s = c .before .before .before .before .before .before .before in
+    of-inside (s .pre .good) (s .args .kind) (c .before .before .i .given .0 .0) (there (c .before) .of)
 
 returns : tie.Need-returns
-returns c = add-full (h (c .before .before .before .before .before .before .before .before .before)) (c .before .before .before .before .before .before .before .before .before .pre .good) (there (c .before .before .before)) (λ w. no-not (c .before .allows .result) (c .if1 .taken) w (c .before .allows .ensures))
+returns c =
+    add-full (h (c .before .before .before .before .before .before .before .before .before))
+    (c .before .before .before .before .before .before .before .before .before .pre .good)
+    (there (c .before .before .before))
+    (λ w. no-not (c .before .allows .result) (c .if1 .taken) w (c .before .allows .ensures))
 
 recount-requires : tie.Need-recount-requires
-recount-requires c κs = (
-  of-inside (c .before .before .before .before .before .before .before .before .before .before .pre .good) (c .before .before .before .before .before .before .before .before .before .before .args .kind) (c .before .before .before .before .before .i .given .0 .0) (there (c .before .before .before .before) .of),
-  yes-not (c .before .before .allows .result) (c .before .if1 .left) (c .before .before .allows .ensures),
-)
+recount-requires c κs =
+    let s = c .before .before .before .before .before .before .before .before .before .before in
+    let allows = c .before .before .allows in (
+      of-inside (s .pre .good) (s .args .kind) (c .before .before .before .before .before .i .given .0 .0)
+          (there (c .before .before .before .before) .of),
+      yes-not (allows .result) (c .before .if1 .left) (allows .ensures),
+    )
 
 insert-at-requires : tie.Need-insert-at-requires
 insert-at-requires c κs = (c .before .before .before .before .before .before .before .pre, missing (c .before))
 
 returns-2 : tie.Need-returns-2
 returns-2 c =
-    added-raised (h (c .before .before .before .before .before .before .before .before .before .before .before .before .before)) (c .before .before .before .before .before .before .before .before .before .before .before .before .before .pre) (λ t. omega (arith, c .slice-known2 .given t))
+    let allows = c .before .before .before .before .before .allows in
+    added-raised
+    (h (c .before .before .before .before .before .before .before .before .before .before .before .before .before))
+    (c .before .before .before .before .before .before .before .before .before .before .before .before .before .pre)
+    (λ t. omega (arith, c .slice-known2 .given t))
     (there (c .before .before .before .before .before .before .before))
-    (yes-not (c .before .before .before .before .before .allows .result) (c .before .before .before .before .if1 .left) (c .before .before .before .before .before .allows .ensures))
+    (yes-not (allows .result) (c .before .before .before .before .if1 .left) (allows .ensures))
     (c .before .before .recount .ensures)
 
 pub put-in-spec : {M : Type 1} → statement M

@@ -22,28 +22,41 @@ allows-requires c κs = inside (c .before .before)
 
 returns : tie.Need-returns
 returns c =
+    let s = c .before .before .before .before in
     taken-not
-    (take-lacks (h (c .before .before .before .before)) (c .before .before .before .before .pre .0 .good) (at-self (c .before .before .before .before .pre .1)) (λ w. no-not (c .before .allows .result) (c .if1 .taken) w (c .before .allows .ensures)))
+    (take-lacks (h s) (s .pre .0 .good) (at-self (s .pre .1)) (λ w. no-not (c .before .allows .result) (c .if1 .taken) w (c .before .allows .ensures)))
 
 left-over-requires : tie.Need-left-over-requires
 left-over-requires c κs = inside (c .before .before .before .before .before)
 
 recount-requires : tie.Need-recount-requires
-recount-requires c κs = (inside (c .before .before .before .before .before .before .before .before), yes-not (c .before .before .before .before .before .allows .result) (c .before .before .before .before .if1 .left) (c .before .before .before .before .before .allows .ensures))
+recount-requires c κs =
+    let allows = c .before .before .before .before .before .allows in
+    (inside (c .before .before .before .before .before .before .before .before), yes-not (allows .result) (c .before .before .before .before .if1 .left) (allows .ensures))
 
 returns-2 : tie.Need-returns-2
 returns-2 c =
-    taken-lowered (h (c .before .before .before .before .before .before .before .before .before .before .before)) (c .before .before .before .before .before .before .before .before .before .before .before .pre .0) (at-self (c .before .before .before .before .before .before .before .before .before .before .before .pre .1)) (yes-not (c .before .before .before .before .before .before .before .before .allows .result) (c .before .before .before .before .before .before .before .if1 .left) (c .before .before .before .before .before .before .before .before .allows .ensures))
+    let s = c .before .before .before .before .before .before .before .before .before .before .before in
+    let allows = c .before .before .before .before .before .before .before .before .allows in
+    taken-lowered (h s)
+    (s .pre .0) (at-self (s .pre .1))
+    (yes-not (allows .result) (c .before .before .before .before .before .before .before .if1 .left) (allows .ensures))
     (λ t. omega (arith, c .slice-known2 .given t))
     (yes-is (c .before .before .before .before .if2 .taken) (c .before .before .before .before .before .left-over .ensures))
     (c .before .before .recount .ensures)
 
 splice-requires : tie.Need-splice-requires
-splice-requires c κs = opens-one (c .before .before .before .before .before .before .before .before .pre .0) (c .before .before .before .before .before .before .before .before .pre .1)
+splice-requires c κs =
+    let s = c .before .before .before .before .before .before .before .before in
+    opens-one (s .pre .0) (s .pre .1)
 
 returns-3 : tie.Need-returns-3
 returns-3 c =
-    taken-removed (h (c .before .before .before .before .before .before .before .before .before .before .before)) (c .before .before .before .before .before .before .before .before .before .before .before .pre .0) (at-self (c .before .before .before .before .before .before .before .before .before .before .before .pre .1)) (yes-not (c .before .before .before .before .before .before .before .before .allows .result) (c .before .before .before .before .before .before .before .if1 .left) (c .before .before .before .before .before .before .before .before .allows .ensures))
+    let s = c .before .before .before .before .before .before .before .before .before .before .before in
+    let allows = c .before .before .before .before .before .before .before .before .allows in
+    taken-removed (h s)
+    (s .pre .0) (at-self (s .pre .1))
+    (yes-not (allows .result) (c .before .before .before .before .before .before .before .if1 .left) (allows .ensures))
     (λ t. omega (arith, c .slice-known3 .given t))
     (λ w. no-is (c .before .before .before .before .if2 .left) w (c .before .before .before .before .before .left-over .ensures))
     (c .before .before .splice .ensures)

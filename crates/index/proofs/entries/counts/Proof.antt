@@ -6,7 +6,7 @@ use native.Mathlib.Omega.{arith}
 use Rattle.index.specs.Pieces.{seen, seenCounts}
 use lib.ListN.{length, drop, length-set}
 use mathlib.Core.List.{List}
-use Rattle.index.specs.Letters.{letters}
+use Rattle.index.specs.Letters.{letterCount, letters}
 use Rattle.index.specs.Reading.{readCounts}
 use Rattle.index.proofs.ReadSteps.{after, after-none, after-wrong, after-more, after-all}
 use borrow.Author.Needs.{needs}
@@ -15,11 +15,11 @@ use Rattle.index.proofs.entries.counts.Tie as tie
 
 abbrev Inv-loop : tie.InvT-loop
 Inv-loop text out₀ may here₀ k₀ out here k =
-    (k ≤ 8) × (length out ≡ 8)
+    (k ≤ letterCount) × (length out ≡ letterCount)
     × (readCounts may letters (drop (here₀ .at) text) ≡ after out k (readCounts (may - k) (drop k letters) (drop (here .at) text)))
 
 abbrev μ-loop : tie.MeasureT-loop
-μ-loop text out₀ may here₀ k₀ out here k = 8 - k
+μ-loop text out₀ may here₀ k₀ out here k = letterCount - k
 
 loop-holds : tie.Need-loop-holds Inv-loop μ-loop
 loop-holds c =

@@ -20,11 +20,12 @@ returns-2 c = inl (λ s. omega arith, refl)
 returns-3 : tie.Need-returns-3
 unfolding Makes makeNeeds Sized
 returns-3 c =
+    let if1 = c .before .before .before .before .before .before .before .before .before .if1 in
     let w = c .before .before .before .before .before .before .clear .ensures in
     let h = c .before .before .put-header .ensures in
     inr (
       omega arith,
-      (refl, empty-good (c .before .before .before .before .before .before .before .before .before .if1 .left) w h (λ t. omega (arith, c .slice-known3 .given t)), empty-length (c .before .before .before .before .before .before .before .before .before .if1 .left) w h, empty-records (c .before .before .before .before .before .before .before .before .before .if1 .left) w h),
+      (refl, empty-good (if1 .left) w h (λ t. omega (arith, c .slice-known3 .given t)), empty-length (if1 .left) w h, empty-records (if1 .left) w h),
     )
 
 pub make-spec : {M : Type 1} → statement M

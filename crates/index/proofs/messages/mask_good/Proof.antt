@@ -22,7 +22,9 @@ cast-kind-of c = omega (arith, c .shared-slice-known4 .given 0)
 
 returns-3 : tie.Need-returns-3
 unfolding flags halfAt Masked
-returns-3 c = λ n. let e = rw (c .before .before .kind-of .ensures) at (c .before .mask-end .ensures) in omega (arith, n (c .before .before .before .before .before .before .if1 .left))
+returns-3 c =
+    λ n. let e = rw (c .before .before .kind-of .ensures) at (c .before .mask-end .ensures) in omega
+    (arith, n (c .before .before .before .before .before .before .if1 .left))
 
 returns-4 : tie.Need-returns-4
 unfolding flags halfAt Masked

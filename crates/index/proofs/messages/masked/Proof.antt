@@ -8,13 +8,17 @@ use Rattle.index.proofs.messages.masked.Tie as tie
 
 returns : tie.Need-returns
 returns c =
-    λ all. no-not (c .before .mask-good .result) (c .if1 .taken) (of-each (c .before .before .before .args .m .now) Masked (c .before .before .before .pre .some-half) all .0) (c .before .mask-good .ensures)
+    let s = c .before .before .before in
+    λ all. no-not (c .before .mask-good .result) (c .if1 .taken)
+    (of-each (s .args .m .now) Masked (s .pre .some-half) all .0) (c .before .mask-good .ensures)
 
 returns-2 : tie.Need-returns-2
 returns-2 c =
-    let first = yes-not (c .before .before .mask-good .result) (c .before .if1 .left) (c .before .before .mask-good .ensures) in
-    says-same (c .mask-good2 .result) (λ second. each-of (c .before .before .before .before .args .m .now) Masked (c .before .before .before .before .pre .some-half) (first, second))
-    (λ all. of-each (c .before .before .before .before .args .m .now) Masked (c .before .before .before .before .pre .some-half) all .1)
+    let s = c .before .before .before .before in
+    let mask-good = c .before .before .mask-good in
+    let first = yes-not (mask-good .result) (c .before .if1 .left) (mask-good .ensures) in
+    says-same (c .mask-good2 .result) (λ second. each-of (s .args .m .now) Masked (s .pre .some-half) (first, second))
+    (λ all. of-each (s .args .m .now) Masked (s .pre .some-half) all .1)
     (c .mask-good2 .ensures)
 
 pub masked-spec : {M : Type 1} → statement M

@@ -9,14 +9,24 @@ use Rattle.index.proofs.messages.message.Tie as tie
 
 returns : tie.Need-returns
 unfolding Message
-returns c = refuses (λ n. (n, c .before .before .before .before .before .args .block .now)) (Carried (c .before .before .before .before .before .args .block .now) (changes (c .before .before .before .before .before .args .message .now)) (c .before .before .before .before .before .args .block .now)) (messageNeeds (c .before .before .before .before .before .args .block .now) (c .before .before .before .before .before .args .message .now)) (c .if1 .taken) (c .before .refused .ensures)
+returns c =
+    let s = c .before .before .before .before .before in
+    refuses (λ n. (n, s .args .block .now))
+    (Carried (s .args .block .now) (changes (s .args .message .now)) (s .args .block .now))
+    (messageNeeds (s .args .block .now) (s .args .message .now)) (c .if1 .taken) (c .before .refused .ensures)
 
 carry-requires : tie.Need-carry-requires
-carry-requires c κs = message-tested (c .before .before .before .before .before .before .args .block .now) (c .before .before .before .before .before .before .args .message .now) (c .before .if1 .left) (c .before .before .refused .ensures)
+carry-requires c κs =
+    let s = c .before .before .before .before .before .before in
+    message-tested (s .args .block .now) (s .args .message .now) (c .before .if1 .left)
+    (c .before .before .refused .ensures)
 
 returns-2 : tie.Need-returns-2
 unfolding Message
-returns-2 c = first-all (λ n. (n, c .before .before .before .before .before .before .before .before .before .args .block .now)) _ _ (messageNeeds (c .before .before .before .before .before .before .before .before .before .args .block .now) (c .before .before .before .before .before .before .before .before .before .args .message .now)) (message-passed (c .before .before .before .before .before .before .before .before .before .args .block .now) (c .before .before .before .before .before .before .before .before .before .args .message .now) (c .before .before .before .before .if1 .left) (c .before .before .before .before .before .refused .ensures)) (c .before .before .carry .ensures)
+returns-2 c =
+    let s = c .before .before .before .before .before .before .before .before .before in
+    first-all (λ n. (n, s .args .block .now)) _ _ (messageNeeds (s .args .block .now) (s .args .message .now))
+    (message-passed (s .args .block .now) (s .args .message .now) (c .before .before .before .before .if1 .left) (c .before .before .before .before .before .refused .ensures)) (c .before .before .carry .ensures)
 
 pub message-spec : {M : Type 1} → statement M
 message-spec =

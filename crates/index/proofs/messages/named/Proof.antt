@@ -8,13 +8,17 @@ use Rattle.index.proofs.messages.named.Tie as tie
 
 returns : tie.Need-returns
 returns c =
-    λ all. no-not (c .before .names-good .result) (c .if1 .taken) (of-each (c .before .before .before .args .m .now) Named (c .before .before .before .pre .some-half) all .0) (c .before .names-good .ensures)
+    let s = c .before .before .before in
+    λ all. no-not (c .before .names-good .result) (c .if1 .taken)
+    (of-each (s .args .m .now) Named (s .pre .some-half) all .0) (c .before .names-good .ensures)
 
 returns-2 : tie.Need-returns-2
 returns-2 c =
-    let first = yes-not (c .before .before .names-good .result) (c .before .if1 .left) (c .before .before .names-good .ensures) in
-    says-same (c .names-good2 .result) (λ second. each-of (c .before .before .before .before .args .m .now) Named (c .before .before .before .before .pre .some-half) (first, second))
-    (λ all. of-each (c .before .before .before .before .args .m .now) Named (c .before .before .before .before .pre .some-half) all .1)
+    let s = c .before .before .before .before in
+    let names-good = c .before .before .names-good in
+    let first = yes-not (names-good .result) (c .before .if1 .left) (names-good .ensures) in
+    says-same (c .names-good2 .result) (λ second. each-of (s .args .m .now) Named (s .pre .some-half) (first, second))
+    (λ all. of-each (s .args .m .now) Named (s .pre .some-half) all .1)
     (c .names-good2 .ensures)
 
 pub named-spec : {M : Type 1} → statement M

@@ -40,7 +40,8 @@ returns-7 c =
 
 returns-8 : tie.Need-returns-8
 unfolding IsKind flags
-returns-8 c = record { twelve = search needs; kind = omega arith; some-half = omega arith; no-previous = λ e. absurd (omega arith); no-new = λ e. absurd (omega arith) }
+returns-8 c =
+    record { twelve = search needs; kind = omega arith; some-half = omega arith; no-previous = λ e. absurd (omega arith); no-new = λ e. absurd (omega arith) }
 
 pub well-formed-spec : {M : Type 1} → statement M
 well-formed-spec =

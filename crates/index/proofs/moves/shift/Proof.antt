@@ -5,10 +5,15 @@ use Rattle.index.proofs.moves.shift.Statement.{statement}
 use Rattle.index.proofs.moves.shift.Tie as tie
 
 returns : tie.Need-returns
-returns c = shifted-up (c .before .before .before .before .before .before .pre .3) (search needs) (search needs) (c .before .before .move-up .ensures)
+returns c =
+    shifted-up (c .before .before .before .before .before .before .pre .3) (search needs) (search needs)
+    (c .before .before .move-up .ensures)
 
 returns-2 : tie.Need-returns-2
-returns-2 c = shifted-down (c .before .before .before .before .before .before .before .before .before .before .pre .3) (search needs) (search needs) (c .before .before .before .before .before .before .move-down .ensures) (c .before .before .clear .ensures)
+returns-2 c =
+    shifted-down (c .before .before .before .before .before .before .before .before .before .before .pre .3)
+    (search needs) (search needs) (c .before .before .before .before .before .before .move-down .ensures)
+    (c .before .before .clear .ensures)
 
 pub shift-spec : {M : Type 1} → statement M
 shift-spec =

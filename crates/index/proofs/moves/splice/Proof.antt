@@ -6,21 +6,26 @@ use Rattle.index.proofs.moves.splice.Statement.{statement}
 use Rattle.index.proofs.moves.splice.Tie as tie
 
 shift-requires : tie.Need-shift-requires
-shift-requires c κs = (
-  search needs,
-  search needs,
-  search needs,
-  λ t l. c .before .before .before .before .before .before .pre .good .tail t (omega (arith, c .before .before .before .before .before .before .pre .good .end-offset)),
-)
+shift-requires c κs =
+    let s = c .before .before .before .before .before .before in (
+      search needs,
+      search needs,
+      search needs,
+      λ t l. s .pre .good .tail t (omega (arith, s .pre .good .end-offset)),
+    )
 
 resize-requires : tie.Need-resize-requires
 resize-requires c κs =
-    let r = shifted-records (c .before .before .before .shift .ensures) (omega arith) (omega arith) in
-    let k = shifted-size (c .before .before .before .shift .ensures) (omega arith) (omega arith) (c .before .before .before .before .before .before .before .before .before .before .args .kind) in
-    omega (arith, c .before .before .before .before .before .before .before .before .before .before .pre .room)
+    let s = c .before .before .before .before .before .before .before .before .before .before in
+    let shift = c .before .before .before .shift in
+    let r = shifted-records (shift .ensures) (omega arith) (omega arith) in
+    let k = shifted-size (shift .ensures) (omega arith) (omega arith) (s .args .kind) in
+    omega (arith, s .pre .room)
 
 returns : tie.Need-returns
-returns c = spliced-is (c .before .before .before .before .before .before .shift .ensures) (c .before .before .resize .ensures) (omega arith)
+returns c =
+    spliced-is (c .before .before .before .before .before .before .shift .ensures)
+    (c .before .before .resize .ensures) (omega arith)
 
 pub splice-spec : {M : Type 1} → statement M
 splice-spec =

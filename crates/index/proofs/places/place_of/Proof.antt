@@ -1,9 +1,9 @@
 -- The search by halves keeps the place between lo and hi.
-use Prim.Native.Nat.{ℕ, _≤_, _<_, _-_, _+_, _/_}
+use Prim.Native.Nat.{ℕ, _-_, _+_, _/_}
 use mathlib.Core.Path.{_≡_}
 use native.Mathlib.Omega.{arith}
 use borrow.Author.Needs.{needs}
-use Rattle.index.specs.Block.{from, size, Of}
+use Rattle.index.specs.Block.{from, size}
 use Rattle.index.proofs.Finding.{Between, at-first, at-last, in-part, upper-half, lower-half}
 use Rattle.index.proofs.Records.{of-records}
 use Rattle.index.proofs.places.place_of.Statement.{statement}
@@ -31,21 +31,28 @@ module _ (c : tie.In-loop Inv-loop μ-loop) where
 
 spot-at-requires : tie.Need-spot-at-requires Inv-loop μ-loop
 spot-at-requires c κs =
+    let s = c .before .before .before .before .before in
     omega
-    (arith, of-records (c .before .before .before .before .before .args .kind) (c .before .before .before .before .before .args .b .now) (mid c) (in-part (c .before .before .before .before .before .args .kind) (first c) (end c) (c .before .before .before .before .before .pre) (mid c) (search needs) (search needs) (c .before .loop .inv)), c .before .before .before .before .before .pre .fits)
+    (arith, of-records (s .args .kind) (s .args .b .now) (mid c) (in-part (s .args .kind) (first c) (end c) (s .pre) (mid c) (search needs) (search needs) (c .before .loop .inv)), s .pre .fits)
 
 loop-again : tie.Need-loop-again Inv-loop μ-loop
 loop-again c =
+    let s = c .before .before .before .before .before .before .before in
     let i = c .before .before in
-    upper-half (c .before .before .before .before .before .before .before .args .kind) (first i) (end i) (c .before .before .before .before .before .before .before .pre) (mid i) (search needs) (search needs) (c .before .before .before .loop .inv) (omega arith)
+    upper-half (s .args .kind) (first i) (end i) (s .pre) (mid i) (search needs) (search needs)
+    (c .before .before .before .loop .inv) (omega arith)
 
 loop-again-2 : tie.Need-loop-again-2 Inv-loop μ-loop
 loop-again-2 c =
+    let s = c .before .before .before .before .before .before .before in
     let i = c .before .before in
-    lower-half (c .before .before .before .before .before .before .before .args .kind) (first i) (end i) (c .before .before .before .before .before .before .before .pre) (mid i) (search needs) (search needs) (c .before .before .before .loop .inv) (omega arith)
+    lower-half (s .args .kind) (first i) (end i) (s .pre) (mid i) (search needs) (search needs)
+    (c .before .before .before .loop .inv) (omega arith)
 
 returns : tie.Need-returns Inv-loop μ-loop
-returns c = at-last (c .before .before .before .before .before .args .kind) (omega arith) (omega arith) (c .before .loop .inv) (search needs)
+returns c =
+    at-last (c .before .before .before .before .before .args .kind) (omega arith) (omega arith) (c .before .loop .inv)
+    (search needs)
 
 pub place-of-spec : {M : Type 1} → statement M
 place-of-spec =

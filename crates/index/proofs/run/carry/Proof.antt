@@ -10,29 +10,40 @@ use Rattle.index.proofs.run.carry.Tie as tie
 
 take-half-requires : tie.Need-take-half-requires
 unfolding flags
-take-half-requires c κs = (c .before .before .before .before .before .pre .previous (λ e. omega arith), omega (arith, c .before .before .before .before .before .pre .formed .twelve))
+take-half-requires c κs =
+    let s = c .before .before .before .before .before in
+    (s .pre .previous (λ e. omega arith), omega (arith, s .pre .formed .twelve))
 
 returns : tie.Need-returns
 unfolding flags
-returns c = rw (changes-previous (c .before .before .before .before .before .before .before .before .args .m .now) (c .before .before .before .before .if1 .taken)) (run-one (c .before .before .take-half .ensures .step))
+returns c =
+    rw
+    (changes-previous (c .before .before .before .before .before .before .before .before .args .m .now) (c .before .before .before .before .if1 .taken)) (run-one (c .before .before .take-half .ensures .step))
 
 put-half-requires : tie.Need-put-half-requires
 unfolding flags
-put-half-requires c κs = (c .before .before .before .before .before .before .pre .new (λ e. omega arith), omega (arith, c .before .before .before .before .before .before .pre .formed .twelve))
+put-half-requires c κs =
+    let s = c .before .before .before .before .before .before in
+    (s .pre .new (λ e. omega arith), omega (arith, s .pre .formed .twelve))
 
 returns-2 : tie.Need-returns-2
 unfolding flags
-returns-2 c = rw (changes-new (c .before .before .before .before .before .before .before .before .before .args .m .now) (c .before .before .before .before .if2 .taken)) (run-one (c .before .before .put-half .ensures))
+returns-2 c =
+    rw
+    (changes-new (c .before .before .before .before .before .before .before .before .before .args .m .now) (c .before .before .before .before .if2 .taken)) (run-one (c .before .before .put-half .ensures))
 
 replace-requires : tie.Need-replace-requires
 unfolding flags
-replace-requires c κs = (c .before .before .before .before .before .before .pre .previous (c .before .if2 .left), c .before .before .before .before .before .before .pre .new (c .before .before .if1 .left), c .before .before .before .before .before .before .pre .formed .twelve)
+replace-requires c κs =
+    let s = c .before .before .before .before .before .before in
+    (s .pre .previous (c .before .if2 .left), s .pre .new (c .before .before .if1 .left), s .pre .formed .twelve)
 
 returns-3 : tie.Need-returns-3
 unfolding flags
 returns-3 c =
-    let e : flags (c .before .before .before .before .before .before .before .before .before .args .m .now) ≡ 3 = omega (arith, c .before .before .before .before .before .before .before .before .before .pre .formed .some-half) in
-    rw (changes-both (c .before .before .before .before .before .before .before .before .before .args .m .now) e) (c .before .before .replace .ensures)
+    let s = c .before .before .before .before .before .before .before .before .before in
+    let e : flags (s .args .m .now) ≡ 3 = omega (arith, s .pre .formed .some-half) in
+    rw (changes-both (s .args .m .now) e) (c .before .before .replace .ensures)
 
 pub carry-spec : {M : Type 1} → statement M
 carry-spec =

@@ -10,11 +10,14 @@ cast-kind-of : tie.Need-cast-kind-of
 cast-kind-of c = omega (arith, c .shared-slice-known2 .given 0)
 
 cast-mask : tie.Need-cast-mask
-cast-mask c = omega (arith, c .shared-slice-known3 .given (c .before .before .before .before .before .before .args .i + 4))
+cast-mask c =
+    omega (arith, c .shared-slice-known3 .given (c .before .before .before .before .before .before .args .i + 4))
 
 returns : tie.Need-returns
 unfolding halfAt
-returns c = rw (c .before .before .before .kind-of .ensures, c .before .before .number-at .ensures .is, c .before .number-at2 .ensures .is)
+returns c =
+    rw
+    (c .before .before .before .kind-of .ensures, c .before .before .number-at .ensures .is, c .before .number-at2 .ensures .is)
 
 pub half-at-spec : {M : Type 1} → statement M
 half-at-spec =

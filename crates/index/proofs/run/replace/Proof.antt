@@ -8,19 +8,30 @@ use Rattle.index.proofs.run.replace.Statement.{statement}
 use Rattle.index.proofs.run.replace.Tie as tie
 
 returns : tie.Need-returns
-returns c = run-refused (c .before .before .before .take-half .ensures .step) (add (halfAt (c .before .before .before .before .before .before .before .args .m .now) 7) ∷ []) (c .if1 .taken)
+returns c =
+    run-refused (c .before .before .before .take-half .ensures .step)
+    (add (halfAt (c .before .before .before .before .before .before .before .args .m .now) 7) ∷ []) (c .if1 .taken)
 
 put-half-requires : tie.Need-put-half-requires
-put-half-requires c κs = (still-ready (c .before .before .before .before .before .before .before .before .pre .1) (step-done (c .before .before .before .before .take-half .ensures .step) (c .before .if1 .left) .1), search needs)
+put-half-requires c κs =
+    (still-ready (c .before .before .before .before .before .before .before .before .pre .1) (step-done (c .before .before .before .before .take-half .ensures .step) (c .before .if1 .left) .1), search needs)
 
 returns-2 : tie.Need-returns-2
-returns-2 c = runs-done (c .before .before .before .before .before .before .before .before .before .before .before .before .pre .0) (c .before .before .before .before .before .before .before .before .take-half .ensures) (c .before .before .before .before .before .if1 .left) (c .before .before .before .put-half .ensures) (c .if2 .taken)
+returns-2 c =
+    runs-done
+    (c .before .before .before .before .before .before .before .before .before .before .before .before .pre .0)
+    (c .before .before .before .before .before .before .before .before .take-half .ensures)
+    (c .before .before .before .before .before .if1 .left) (c .before .before .before .put-half .ensures)
+    (c .if2 .taken)
 
 put-half-requires-2 : tie.Need-put-half-requires-2
-put-half-requires-2 c κs = (same-then (c .before .before .before .before .before .before .before .before .before .before .before .before .before .pre .0) (c .before .before .before .before .before .before .before .before .before .take-half .ensures) (c .before .before .before .before .before .before .if1 .left) (c .before .before .before .before .put-half .ensures) (c .before .if2 .left), search needs)
+put-half-requires-2 c κs =
+    (same-then (c .before .before .before .before .before .before .before .before .before .before .before .before .before .pre .0) (c .before .before .before .before .before .before .before .before .before .take-half .ensures) (c .before .before .before .before .before .before .if1 .left) (c .before .before .before .before .put-half .ensures) (c .before .if2 .left), search needs)
 
 returns-3 : tie.Need-returns-3
-returns-3 c = runs-back (c .before .before .before .before .before .before .before .before .before .before .before .before .before .before .before .before .pre .0) (c .before .before .before .before .before .before .before .before .before .before .before .before .take-half .ensures) (c .before .before .before .before .before .before .before .before .before .if1 .left) (c .before .before .before .before .before .before .before .put-half .ensures) (c .before .before .before .before .if2 .left) (c .before .before .put-half2 .ensures)
+returns-3 c =
+    runs-back
+    (c .before .before .before .before .before .before .before .before .before .before .before .before .before .before .before .before .pre .0) (c .before .before .before .before .before .before .before .before .before .before .before .before .take-half .ensures) (c .before .before .before .before .before .before .before .before .before .if1 .left) (c .before .before .before .before .before .before .before .put-half .ensures) (c .before .before .before .before .if2 .left) (c .before .before .put-half2 .ensures)
 
 pub replace-spec : {M : Type 1} → statement M
 replace-spec =

@@ -5,6 +5,7 @@ use mathlib.Core.List.{List}
 use lib.ListN.{length, drop}
 use denote.Ref.{now}
 use native.Mathlib.Omega.{arith}
+use Rattle.index.specs.Letters.{letterCount}
 use Rattle.index.specs.Text.{Entry}
 use Rattle.index.specs.declared.scanning.Scan.{Scan}
 use Rattle.index.specs.Reading.{readRecord}
@@ -16,41 +17,51 @@ use Rattle.index.proofs.scanning.scan_text.Statement.{statement}
 use Rattle.index.proofs.scanning.scan_text.Tie as tie
 
 abbrev Inv-loop : tie.InvT-loop
-Inv-loop text kind out₀ here₀ least₀ n₀ out here least n = (length out ≡ 8) × Turn text kind (here .at) least n
+Inv-loop text kind out₀ here₀ least₀ n₀ out here least n = (length out ≡ letterCount) × Turn text kind (here .at) least n
 
 abbrev μ-loop : tie.MeasureT-loop
 μ-loop text kind out₀ here₀ least₀ n₀ out here least n = length text - here .at
 
--- ---- at the places of the loop
-abbrev entry : (c : tie.After-known-told Inv-loop μ-loop) → Entry
-entry c = record { id = c .before .entry .given .0 .0; counts = c .before .before .before .read-record .last .1 .1 .1 .1 .0 }
+-- ---- a record was read
 
-abbrev next-at : (c : tie.After-known-told Inv-loop μ-loop) → ℕ
-next-at c = c .before .entry .given .0 .1 .0 .at
+abbrev start : tie.After-entry Inv-loop μ-loop → tie.Start Inv-loop μ-loop
+start c = c .before .before .before .before .before .before .before
 
--- a record was read
-was-read : (c : tie.After-known-told Inv-loop μ-loop)
-    → readRecord (c .before .before .before .before .before .before .before .before .args .kind) (c .before .before .before .before .before .loop .least) (drop (c .before .before .before .before .before .loop .here .at) (now (c .before .before .before .before .before .before .before .before .args .text)))
-    ≡ got (entry c) (drop (next-at c) (now (c .before .before .before .before .before .before .before .before .args .text)))
+abbrev at-loop : tie.After-entry Inv-loop μ-loop → tie.At-loop Inv-loop μ-loop
+at-loop c = c .before .before .before .before
+
+abbrev text : tie.After-entry Inv-loop μ-loop → List ℕ
+text c = now (start c .args .text)
+
+abbrev entry : tie.After-entry Inv-loop μ-loop → Entry
+entry c = record { id = c .entry .given .0 .0; counts = c .before .before .read-record .last .1 .1 .1 .1 .0 }
+
+abbrev next-at : tie.After-entry Inv-loop μ-loop → ℕ
+next-at c = c .entry .given .0 .1 .0 .at
+
+was-read : (c : tie.After-entry Inv-loop μ-loop)
+    → readRecord (start c .args .kind) (at-loop c .loop .least) (drop (at-loop c .loop .here .at) (text c)) ≡ got (entry c) (drop (next-at c) (text c))
 was-read c =
-    sym (c .before .before .before .read-record .ensures .1)
-    ∙ ap (λ p. seenEntry (now (c .before .before .before .before .before .before .before .before .args .text)) p (c .before .before .before .read-record .last .1 .1 .1 .1 .0)) (c .before .entry .given .1)
+    sym (c .before .before .read-record .ensures .1) ∙ ap (λ p. seenEntry (text c) p (entry c .counts)) (c .entry .given .1)
 
--- and a `;` after it
-next-turn : (c : tie.After-known-told2 Inv-loop μ-loop)
-    → Turn (now (c .before .before .before .before .before .before .before .before .before .before .before .before .before .before .args .text)) (c .before .before .before .before .before .before .before .before .before .before .before .before .before .before .args .kind) (c .before .sign .given .0 .1 .0 .at)
-    (c .before .before .before .before .before .before .before .entry .given .0 .0 + 1) (c .before .before .before .before .before .before .before .before .before .before .before .loop .n + 1)
-    × (length (now (c .before .before .before .before .before .before .before .before .before .before .before .before .before .before .args .text)) - c .before .sign .given .0 .1 .0 .at
-    < length (now (c .before .before .before .before .before .before .before .before .before .before .before .before .before .before .args .text)) - c .before .before .before .before .before .before .before .before .before .before .before .loop .here .at)
+-- ---- and a `;` after it
+
+abbrev before : tie.After-sign Inv-loop μ-loop → tie.After-entry Inv-loop μ-loop
+before c = c .before .before .before .before .before .before
+
+next-turn : (c : tie.After-sign Inv-loop μ-loop)
+    → Turn (text (before c)) (start (before c) .args .kind) (c .sign .given .0 .1 .0 .at) (entry (before c) .id + 1) (at-loop (before c) .loop .n + 1)
+    × (length (text (before c)) - c .sign .given .0 .1 .0 .at < length (text (before c)) - at-loop (before c) .loop .here .at)
 next-turn c =
-    let l = c .before .before .before .before .before .before .before .before .before .before .before .loop in
-    turn-next (now (c .before .before .before .before .before .before .before .before .before .before .before .before .before .before .args .text)) (c .before .before .before .before .before .before .before .before .before .before .before .before .before .before .args .kind) (l .here .at) (l .least) (l .n) (l .inv .1)
-    (entry (c .before .before .before .before .before .before)) (next-at (c .before .before .before .before .before .before)) (was-read (c .before .before .before .before .before .before)) _ (c .before .sign .given .0 .1 .0 .at) (c .before .before .before .before .if3 .left)
-    (sym (c .before .before .before .mark .ensures) ∙ ap (seen (now (c .before .before .before .before .before .before .before .before .before .before .before .before .before .before .args .text))) (c .before .sign .given .1))
+    let k = before c in
+    let l = at-loop k .loop in
+    turn-next (text k) (start k .args .kind) (l .here .at) (l .least) (l .n) (l .inv .1) (entry k) (next-at k) (was-read k) _ (c .sign .given .0 .1 .0 .at) (c .before .before .before .if3 .left)
+    (sym (c .before .before .mark .ensures) ∙ ap (seen (text k)) (c .sign .given .1))
+
+-- ---- the needs
 
 returns : tie.Need-returns Inv-loop μ-loop
-returns c =
-    no-text (now (c .before .before .args .text)) (c .before .before .args .kind) (c .if1 .taken)
+returns c = no-text (now (c .before .before .args .text)) (c .before .before .args .kind) (c .if1 .taken)
 
 loop-holds : tie.Need-loop-holds Inv-loop μ-loop
 loop-holds c =
@@ -64,54 +75,48 @@ returns-2 c =
     let a = c .before .before .before .before .before .before .before .before .args in
     let l = c .before .before .before .before .before .loop in
     let t : List ℕ = now (a .text) in
-    let r = c .before .before .before .read-record in
     subst (λ (x : Scan). Scanned (a .kind) t x) (sym (c .refused .ensures _ (ap (seen t) (c .before .enum-told .given .1))))
     (turn-wrong t (a .kind) (l .here .at) (l .least) (l .n) (l .inv .1) _
-    (sym (r .ensures .1) ∙ ap (λ p. seenEntry t p (r .last .1 .1 .1 .1 .0)) (c .before .enum-told .given .1)))
+    (sym (c .before .before .before .read-record .ensures .1) ∙ ap (λ p. seenEntry t p (c .before .before .before .read-record .last .1 .1 .1 .1 .0)) (c .before .enum-told .given .1)))
 
 add-n : tie.Need-add-n Inv-loop μ-loop
 add-n c =
-    let a = c .before .before .before .before .before .before .before .before .args in
+    let k = c .before in
     let l = c .before .before .before .before .before .loop in
     omega (
       arith,
       l .inv .1 .room,
-      shorter (now (a .text)) (a .kind) (l .here .at) (l .least) (l .n) (l .inv .1) (entry c) (next-at c) (was-read c),
+      shorter (text k) (start k .args .kind) (l .here .at) (l .least) (l .n) (l .inv .1) (entry k) (next-at k) (was-read k),
     )
 
 returns-3 : tie.Need-returns-3 Inv-loop μ-loop
 returns-3 c =
-    let a = c .before .before .before .before .before .before .before .before .before .args in
+    let k = c .before .before in
     let l = c .before .before .before .before .before .before .loop in
-    turn-last (now (a .text)) (a .kind) (l .here .at) (l .least) (l .n) (l .inv .1) (entry (c .before)) (next-at (c .before))
-    (was-read (c .before)) (c .if2 .taken)
+    turn-last (text k) (start k .args .kind) (l .here .at) (l .least) (l .n) (l .inv .1) (entry k) (next-at k) (was-read k) (c .if2 .taken)
 
 returns-4 : tie.Need-returns-4 Inv-loop μ-loop
 returns-4 c =
-    let a = c .before .before .before .before .before .before .before .before .before .before .args in
+    let k = c .before .before .before in
     let l = c .before .before .before .before .before .before .before .loop in
-    let k = c .before .before in
-    turn-full (now (a .text)) (a .kind) (l .here .at) (l .least) (l .n) (l .inv .1) (entry k) (next-at k) (was-read k)
-    (c .before .if2 .left) (c .if3 .taken)
+    turn-full (text k) (start k .args .kind) (l .here .at) (l .least) (l .n) (l .inv .1) (entry k) (next-at k) (was-read k) (c .before .if2 .left) (c .if3 .taken)
 
 returns-5 : tie.Need-returns-5 Inv-loop μ-loop
 returns-5 c =
-    let a = c .before .before .before .before .before .before .before .before .before .before .before .before .before .before .args in
+    let k = c .before .before .before .before .before .before .before in
     let l = c .before .before .before .before .before .before .before .before .before .before .before .loop in
-    let t : List ℕ = now (a .text) in
-    let k = c .before .before .before .before .before .before in
-    subst (λ (x : Scan). Scanned (a .kind) t x) (sym (c .refused2 .ensures _ (ap (seen t) (c .before .enum-told2 .given .1))))
-    (turn-no-mark t (a .kind) (l .here .at) (l .least) (l .n) (l .inv .1) (entry k) (next-at k) (was-read k) _
-    (c .before .before .before .before .before .if2 .left) (sym (c .before .before .before .mark .ensures) ∙ ap (seen t) (c .before .enum-told2 .given .1)))
+    subst (λ (x : Scan). Scanned (start k .args .kind) (text k) x) (sym (c .refused2 .ensures _ (ap (seen (text k)) (c .before .enum-told2 .given .1))))
+    (turn-no-mark (text k) (start k .args .kind) (l .here .at) (l .least) (l .n) (l .inv .1) (entry k) (next-at k) (was-read k) _ (c .before .before .before .before .before .if2 .left)
+    (sym (c .before .before .before .mark .ensures) ∙ ap (seen (text k)) (c .before .enum-told2 .given .1)))
 
 add-least : tie.Need-add-least Inv-loop μ-loop
-add-least c = omega (arith, next-turn c .0 .small)
+add-least c = omega (arith, next-turn (c .before) .0 .small)
 
 loop-less : tie.Need-loop-less Inv-loop μ-loop
-loop-less c = next-turn c .1
+loop-less c = next-turn (c .before) .1
 
 loop-again : tie.Need-loop-again Inv-loop μ-loop
-loop-again c = (c .before .before .before .before .before .before .before .before .before .read-record .ensures .0, next-turn c .0)
+loop-again c = (c .before .before .before .before .before .before .before .before .before .read-record .ensures .0, next-turn (c .before) .0)
 
 pub scan-text-spec : {M : Type 1} → statement M
 scan-text-spec =

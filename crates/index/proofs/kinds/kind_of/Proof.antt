@@ -1,8 +1,8 @@
--- `index::sets::kind_of` meets its contract.
+-- The kind of a number, by two tests of it.
 use borrow.Author.Tests.{eq-eqb, ne-eqb}
 use Rattle.index.specs.Message.{kindOf}
-use Rattle.index.proofs.sets.kind_of.Statement.{statement}
-use Rattle.index.proofs.sets.kind_of.Tie as tie
+use Rattle.index.proofs.kinds.kind_of.Statement.{statement}
+use Rattle.index.proofs.kinds.kind_of.Tie as tie
 
 returns : tie.Need-returns
 unfolding kindOf
