@@ -1,0 +1,123 @@
+// The examples of the rules that are run: each line says what was asked, and what came back.
+use rights::Answer;
+use rights::Rights;
+ghost use Prim.Native.Nat.{_<_};
+
+// One line: the words, and a number.
+fn say(words: &[u8], n: u64) -> bool {
+    io::write_all(1, words);
+    io::print_decimal(1, n);
+    io::write_all(1, b"\n")
+}
+
+// A new half alone goes to the block.
+fn give(block: &mut [u8], kind: u8, key: u16, id: u16, mask: u8) -> u8 {
+    let key_low = (key % 256) as u8;
+    let key_high = (key / 256 % 256) as u8;
+    let id_low = (id % 256) as u8;
+    let id_high = (id / 256 % 256) as u8;
+    let message = [
+        kind,
+        2,
+        0,
+        0,
+        0,
+        0,
+        0,
+        key_low,
+        key_high,
+        id_low,
+        id_high,
+        mask,
+    ];
+    index::message(block, &message)
+}
+
+// The rights of the user on the object, all four asked for; 100 and the number for a refusal.
+fn full(block: &[u8], user: u64, object: u64) -> u64 {
+    match rights::rights_of(block, user, object, 15) {
+        Rights::Held(mask) => mask as u64,
+        Rights::Refused(number) => 100 + number as u64,
+    }
+}
+
+// 1 for yes and 0 for no; 100 and the number for a refusal.
+fn short(block: &[u8], user: u64, object: u64, request: u64) -> u64 {
+    match rights::may(block, user, object, request) {
+        Answer::Yes => 1,
+        Answer::No => 0,
+        Answer::Refused(number) => 100 + number as u64,
+    }
+}
+
+// So many M records in a chain from 100 on, each with R.
+fn chain(block: &mut [u8], long: u16)
+    requires { ⌜ long < 900 ⌝ }
+{
+    let mut n: u16 = 0;
+    while n < long {
+        give(block, 1, 100 + n, 101 + n, 2);
+        n += 1;
+    }
+}
+
+// A chain of M records on the user's side and then on the object's: what it carries.
+fn chains(long: u16) -> bool
+    requires { ⌜ long < 900 ⌝ }
+{
+    let mut block = [0u8; 1016];
+    index::make(&mut block);
+    chain(&mut block, long);
+    let mut other = block;
+    let last = 100 + long;
+    give(&mut block, 2, 9, last, 2);
+    give(&mut other, 2, last, 9, 2);
+    say(b"chain of ", long as u64);
+    say(b"  user's side: ", full(&block, 100, 9));
+    say(b"  object's side: ", full(&other, 9, 100));
+    say(b"  may read: ", short(&block, 100, 9, 2))
+}
+
+// Blocks at the ends of the range of lengths.
+fn lengths() -> bool {
+    let mut short_block = [7u8; 15];
+    let mut long_block = [7u8; 40977];
+    let mut least = [7u8; 16];
+    let mut greatest = [7u8; 40976];
+    say(b"make, 15 bytes: ", index::make(&mut short_block) as u64);
+    say(b"make, 40,977 bytes: ", index::make(&mut long_block) as u64);
+    say(
+        b"message, 40,977 bytes: ",
+        give(&mut long_block, 2, 9, 1, 2) as u64,
+    );
+    say(b"make, 16 bytes: ", index::make(&mut least) as u64);
+    say(b"  good: ", index::tested(&least) as u64);
+    say(b"  a record: ", give(&mut least, 2, 9, 1, 2) as u64);
+    say(b"make, 40,976 bytes: ", index::make(&mut greatest) as u64);
+    say(b"  a record: ", give(&mut greatest, 2, 9, 1, 2) as u64)
+}
+
+// Name 0 on either side, and numbers that would narrow to it.
+fn zero() -> bool {
+    let mut block = [0u8; 216];
+    index::make(&mut block);
+    give(&mut block, 1, 1, 1, 2);
+    give(&mut block, 2, 0, 1, 2);
+    give(&mut block, 1, 0, 5, 15);
+    give(&mut block, 2, 5, 1, 8);
+    say(b"name 0, any object: ", full(&block, 1, 700));
+    say(b"name 0, object 0, whose group is 5: ", full(&block, 1, 0));
+    say(b"user 65,537: ", full(&block, 65537, 9));
+    say(b"object 1,024: ", full(&block, 1, 1024));
+    say(b"request 0: ", short(&block, 1, 9, 0));
+    say(b"request 16: ", short(&block, 1, 9, 16))
+}
+
+fn main() {
+    chains(31);
+    chains(32);
+    chains(33);
+    chains(40);
+    lengths();
+    zero();
+}
