@@ -17,7 +17,8 @@ use Rattle.index.specs.Checks.{Says, Header, Counted, Record, Part, Zero
 use Rattle.index.specs.Edits.{fourAt}
 use Rattle.index.proofs.Bytes.{count-out}
 use Rattle.index.proofs.Range.{lt-or-le, from-none, from-more}
-use Rattle.index.proofs.Records.{kind-of}
+use Rattle.index.proofs.Records.{before-spot}
+use Rattle.index.proofs.Together.{together}
 use Rattle.index.proofs.Splice.{good-record}
 
 -- ---- letters
@@ -161,21 +162,7 @@ part-of g kind =
 
 pub good-of : {b : List ℕ} → ((t : ℕ) → getD b t 0 < 256) → Header b → ((kind : Kind) → Whole b kind)
     → Zero b (place (records b)) → Good b
-good-of {b} bytes h parts z =
-    let each : (i : ℕ) → i < records b → (kind : Kind) × Record b kind i =
-    λ i l. let o = kind-of b i l in (o .0, parts (o .0) .each i (o .1 .0) (o .1 .1)) in
-    record {
-      bytes = bytes;
-      zero-at-6 = h .zero-at-6;
-      m-offset = h .m-offset;
-      p-offset = h .p-offset;
-      f-offset = h .f-offset;
-      end-offset = h .end-offset;
-      fits = h .fits;
-      keys = λ i l. each i l .1 .key-below;
-      ids = λ i l. each i l .1 .id-below;
-      rising = λ kind i o p. parts kind .rising i (o .0) (p .1);
-      counted = λ i l. each i l .1 .counted;
-      allowed = λ kind i o. parts kind .each i (o .0) (o .1) .allowed;
-      tail = z;
-    }
+good-of {b} bytes h parts =
+    together bytes h (λ kind i o. parts kind .each i (o .0) (o .1))
+    (λ kind i o p.
+    before-spot b i (i + 1) (parts kind .each i (o .0) (o .1) .id-below) (parts kind .rising i (o .0) (p .1)))

@@ -16,7 +16,7 @@ use Rattle.index.specs.Places.{spot}
 use Rattle.index.specs.Checks.{Header, Record}
 use Rattle.index.proofs.Range.{lt-or-le}
 use Rattle.index.proofs.Bytes.{count-out}
-use Rattle.index.proofs.Records.{spot-before, kind-of}
+use Rattle.index.proofs.Together.{together}
 use Rattle.index.proofs.Tests.{both, all, all-at, some, some-at}
 
 abbrev headerTest : List ℕ → Bool
@@ -115,24 +115,6 @@ module _ (b : List ℕ) where
   good-test e =
       let p = both (headerTest b) _ e in
       let q = both (bytesTest b) _ (p .1) in
-      let h = header-test b (p .0) in
       let part = parts (q .1) in
-      let each : (i : ℕ) → i < records b → (kind : Kind) × Record b kind i =
-      λ i l. let o = kind-of b i l in (o .0, part-record (o .0) (part (o .0)) i (o .1)) in
-      record {
-        bytes = byte-below (q .0);
-        zero-at-6 = h .zero-at-6;
-        m-offset = h .m-offset;
-        p-offset = h .p-offset;
-        f-offset = h .f-offset;
-        end-offset = h .end-offset;
-        fits = h .fits;
-        keys = λ i l. each i l .1 .key-below;
-        ids = λ i l. each i l .1 .id-below;
-        rising =
-            λ kind i o p.
-            spot-before b i (i + 1) (part-record kind (part kind) (i + 1) p .id-below) (part-rises kind (part kind) i o p);
-        counted = λ i l. each i l .1 .counted;
-        allowed = λ kind i o. part-record kind (part kind) i o .allowed;
-        tail = zero-behind (q .0);
-      }
+      together (byte-below (q .0)) (header-test b (p .0)) (λ kind. part-record kind (part kind)) (λ kind. part-rises kind (part kind))
+      (zero-behind (q .0))

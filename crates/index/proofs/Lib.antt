@@ -24,6 +24,7 @@ pub mod Masks
 pub mod MessageTest
 pub mod MillHistory
 pub mod OneCall
+pub mod OneDoor
 pub mod OneFirst
 pub mod OneMessage
 pub mod OneSet
@@ -55,6 +56,7 @@ pub mod Tests
 pub mod TextBound
 pub mod TextOnce
 pub mod ThreeKinds
+pub mod Together
 pub mod Unchanged
 pub mod WriteAccepted
 pub mod Writes

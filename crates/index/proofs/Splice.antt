@@ -15,8 +15,9 @@ use Rattle.index.specs.Checks.{Header, Record}
 use Rattle.index.specs.Bytes.{Spliced, Fits}
 use Rattle.index.proofs.Range.{lt-or-le}
 use Rattle.index.proofs.ThreeKinds.{apart}
+use Rattle.index.proofs.Together.{together}
 use Rattle.index.proofs.Bytes.{count-number, count-out}
-use Rattle.index.proofs.Records.{spot-before, of-records, kind-of, gap-in, rises, once, where-is, count-at, count-none}
+use Rattle.index.proofs.Records.{of-records, gap-in, rises, once, where-is, count-at, count-none}
 
 -- ---- records, wherever they stand
 
@@ -239,30 +240,11 @@ module _
 
   pub spliced-good : Good b′
   spliced-good =
-      let h = s .header in
-      let each : (i : ℕ) → i < records b′ → (K : Kind) × Record b′ K i =
-      λ i l. let o = kind-of b′ i l in (o .0, record-there (o .0) i (o .1)) in
-      record {
-        bytes = bytes;
-        zero-at-6 = h .zero-at-6;
-        m-offset = h .m-offset;
-        p-offset = h .p-offset;
-        f-offset = h .f-offset;
-        end-offset = h .end-offset;
-        fits = h .fits;
-        keys = λ i l. each i l .1 .key-below;
-        ids = λ i l. each i l .1 .id-below;
-        rising =
-            λ K i o p.
-            spot-before b′ i (i + 1) (record-there K (i + 1) p .id-below) (rise K i (view sides K i o) (view sides K (i + 1) p));
-        counted = λ i l. each i l .1 .counted;
-        allowed = λ K i o. record-there K i o .allowed;
-        tail =
-            λ t l.
-            let r = spliced-records in
-            let e : place (j + m) + (t - place (j + m)) ≡ t = omega arith in
-            rw e at (s .moved (t - place (j + m)) ∙ g .tail (place (j + n) + (t - place (j + m))) (omega arith));
-      }
+      together bytes (s .header) record-there (λ K i o p. rise K i (view sides K i o) (view sides K (i + 1) p))
+      (λ t l.
+      let r = spliced-records in
+      let e : place (j + m) + (t - place (j + m)) ≡ t = omega arith in
+      rw e at (s .moved (t - place (j + m)) ∙ g .tail (place (j + n) + (t - place (j + m))) (omega arith)))
 
   module _ (K : Kind) (x y k : ℕ) where
     pub spliced-stays : None j n b K x y → None j m b′ K x y → count b′ K x y k ≡ count b K x y k

@@ -21,7 +21,7 @@ fn bit_of(mask: usize, k: usize) -> usize
 }
 
 // Each count of record i can do without one for each letter of `less` and with one for each letter of `more`.
-pub fn allows(b: &[u8], i: usize, less: usize, more: usize) -> bool
+pub(crate) fn allows(b: &[u8], i: usize, less: usize, more: usize) -> bool
     requires { ⌜ place (i + 1) ≤ length (now b) ⌝ }
     ensures { λ r. ⌜ Says (Allows (now (b .entry)) i less more) r ⌝ }
 {
@@ -41,7 +41,7 @@ pub fn allows(b: &[u8], i: usize, less: usize, more: usize) -> bool
 }
 
 // A count of record i is above zero without one for each letter of the mask.
-pub fn left_over(b: &[u8], i: usize, mask: usize) -> bool
+pub(crate) fn left_over(b: &[u8], i: usize, mask: usize) -> bool
     requires { ⌜ place (i + 1) ≤ length (now b) ⌝ }
     ensures { λ r. ⌜ Says (Left (now (b .entry)) i mask) r ⌝ }
 {
@@ -56,7 +56,7 @@ pub fn left_over(b: &[u8], i: usize, mask: usize) -> bool
 }
 
 // In record i each letter of `less` goes down by one, and each letter of `more` up.
-pub fn recount(b: &mut [u8], i: usize, less: usize, more: usize)
+pub(crate) fn recount(b: &mut [u8], i: usize, less: usize, more: usize)
     requires { ⌜ (place (i + 1) ≤ length (now b)) × Allows (now b) i less more ⌝ }
     ensures { λ _. ⌜ Recounted i less more (now (b .entry)) (now (b .exit)) ⌝ }
 {

@@ -49,7 +49,7 @@ fn take_at(b: &mut [u8], kind: Kind, i: usize, mask: usize) -> u8
 }
 
 // Take the half away; 6 where a letter of it has count 0 or no record.
-pub fn take_away(b: &mut [u8], kind: Kind, x: usize, y: usize, mask: usize) -> u8
+pub(crate) fn take_away(b: &mut [u8], kind: Kind, x: usize, y: usize, mask: usize) -> u8
     requires { ⌜ Ready (half kind x y mask) (now b) ⌝ }
     ensures { λ r. ⌜ TakenAway (half kind x y mask) (now (b .entry)) r (now (b .exit)) ⌝ }
 {
@@ -73,7 +73,7 @@ fn insert_at(b: &mut [u8], kind: Kind, i: usize, x: usize, y: usize, mask: usize
 }
 
 // Put the half in; 7 where a letter of it stands at 65,535, 8 where its record is missing and there is no room.
-pub fn put_in(b: &mut [u8], kind: Kind, x: usize, y: usize, mask: usize) -> u8
+pub(crate) fn put_in(b: &mut [u8], kind: Kind, x: usize, y: usize, mask: usize) -> u8
     requires { ⌜ Ready (half kind x y mask) (now b) ⌝ }
     ensures { λ r. ⌜ Step (add (half kind x y mask)) (now (b .entry)) r (now (b .exit)) ⌝ }
 {

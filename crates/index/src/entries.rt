@@ -80,7 +80,7 @@ fn is_counted(counts: &[usize; LETTER_COUNT]) -> bool
 }
 
 // The record at the cursor, whose id is at least `least`: its counts go into `out`, and the answer's number is its id.
-pub fn read_record(
+pub(crate) fn read_record(
     text: &[u8],
     c: Cursor,
     kind: Kind,
@@ -112,7 +112,7 @@ pub fn read_record(
 
 // The next record of a text that is of a set, with the `;` before it where the text has begun: its counts go into
 // `out`, and the answer's number is its id.
-pub fn take_record(
+pub(crate) fn take_record(
     text: &[u8],
     c: Cursor,
     kind: Kind,

@@ -49,7 +49,7 @@ pub const LETTERS: [Letter; 8] = [
 ];
 
 // Letter k, in letter order.
-pub fn letter_at(k: usize) -> Letter
+pub(crate) fn letter_at(k: usize) -> Letter
     requires { ⌜ k < letterCount ⌝ }
     ensures { λ r. ⌜ (r .mask ≡ 2 ^ k) × (r .byte ≡ getD letters k 0) ⌝ }
 {
@@ -57,7 +57,7 @@ pub fn letter_at(k: usize) -> Letter
 }
 
 // How many of the letters a record of the kind may have.
-pub fn letters_of(kind: Kind) -> usize
+pub(crate) fn letters_of(kind: Kind) -> usize
     ensures { λ r. ⌜ r ≡ lettersOf kind ⌝ }
 {
     match kind {

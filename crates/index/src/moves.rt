@@ -14,7 +14,7 @@ ghost use Rattle.index.specs.Checks.{Zero};
 ghost use Rattle.index.specs.Edits.{Filled, Headed, Resized, Opens};
 
 // The bytes lo to hi - 1 become zero.
-pub fn clear(b: &mut [u8], lo: usize, hi: usize)
+pub(crate) fn clear(b: &mut [u8], lo: usize, hi: usize)
     requires { ⌜ (lo ≤ hi) × (hi ≤ length (now b)) ⌝ }
     ensures { λ _. ⌜ Filled lo hi (λ u. 0) (now (b .entry)) (now (b .exit)) ⌝ }
 {
@@ -50,7 +50,7 @@ fn move_up(b: &mut [u8], lo: usize, hi: usize, d: usize)
 }
 
 // The bytes from p on, which are zero from `end` on, go to q and after it.
-pub fn shift(b: &mut [u8], p: usize, q: usize, end: usize)
+pub(crate) fn shift(b: &mut [u8], p: usize, q: usize, end: usize)
     requires { ⌜ (p ≤ end) × (end ≤ length (now b)) × (q + (end - p) ≤ length (now b)) × Zero (now b) end ⌝ }
     ensures { λ _. ⌜ Shifted p q (now (b .entry)) (now (b .exit)) ⌝ }
 {
@@ -64,7 +64,7 @@ pub fn shift(b: &mut [u8], p: usize, q: usize, end: usize)
 }
 
 // The header of m, p and f records.
-pub fn put_header(b: &mut [u8], m: usize, p: usize, f: usize)
+pub(crate) fn put_header(b: &mut [u8], m: usize, p: usize, f: usize)
     requires { ⌜ (headerLength ≤ length (now b)) × (place (m + p + f) < 65536) ⌝ }
     ensures { λ _. ⌜ Headed m p f (now (b .entry)) (now (b .exit)) ⌝ }
 {
@@ -94,7 +94,7 @@ fn resize(b: &mut [u8], kind: Kind, n: usize)
 }
 
 // There is room for m records of the kind in the place of n from number j on. What the m are is left open.
-pub fn splice(b: &mut [u8], kind: Kind, j: usize, n: usize, m: usize)
+pub(crate) fn splice(b: &mut [u8], kind: Kind, j: usize, n: usize, m: usize)
     requires { ⌜ Opens kind j n m (now b) ⌝ }
     ensures { λ _. ⌜ Spliced kind j n m (now (b .entry)) (now (b .exit)) ⌝ }
 {

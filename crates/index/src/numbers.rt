@@ -9,7 +9,7 @@ ghost use Rattle.index.specs.Block.{number, place, key, id, countAt};
 ghost use Rattle.index.specs.Bytes.{Put, Num};
 
 // The number at byte i.
-pub fn number_at(b: &[u8], i: usize) -> usize
+pub(crate) fn number_at(b: &[u8], i: usize) -> usize
     requires { ⌜ i + 1 < length (now b) ⌝ }
     ensures { λ r. ⌜ Num (number (now (b .entry)) i) r ⌝ }
 {
@@ -17,7 +17,7 @@ pub fn number_at(b: &[u8], i: usize) -> usize
 }
 
 // Write n at byte i.
-pub fn put_number(b: &mut [u8], i: usize, n: usize)
+pub(crate) fn put_number(b: &mut [u8], i: usize, n: usize)
     requires { ⌜ (i + 1 < length (now b)) × (n < 65536) ⌝ }
     ensures { λ _. ⌜ Put i n (now (b .entry)) (now (b .exit)) ⌝ }
 {
@@ -26,7 +26,7 @@ pub fn put_number(b: &mut [u8], i: usize, n: usize)
 }
 
 // The key of record i.
-pub fn key_at(b: &[u8], i: usize) -> usize
+pub(crate) fn key_at(b: &[u8], i: usize) -> usize
     requires { ⌜ place (i + 1) ≤ length (now b) ⌝ }
     ensures { λ r. ⌜ Num (key (now (b .entry)) i) r ⌝ }
 {
@@ -34,7 +34,7 @@ pub fn key_at(b: &[u8], i: usize) -> usize
 }
 
 // The id of record i.
-pub fn id_at(b: &[u8], i: usize) -> usize
+pub(crate) fn id_at(b: &[u8], i: usize) -> usize
     requires { ⌜ place (i + 1) ≤ length (now b) ⌝ }
     ensures { λ r. ⌜ Num (id (now (b .entry)) i) r ⌝ }
 {
@@ -42,7 +42,7 @@ pub fn id_at(b: &[u8], i: usize) -> usize
 }
 
 // The count of letter k in record i.
-pub fn count_at(b: &[u8], i: usize, k: usize) -> usize
+pub(crate) fn count_at(b: &[u8], i: usize, k: usize) -> usize
     requires { ⌜ (place (i + 1) ≤ length (now b)) × (k < letterCount) ⌝ }
     ensures { λ r. ⌜ Num (countAt (now (b .entry)) i k) r ⌝ }
 {
@@ -50,7 +50,7 @@ pub fn count_at(b: &[u8], i: usize, k: usize) -> usize
 }
 
 // Write n as the count of letter k in record i.
-pub fn put_count(b: &mut [u8], i: usize, k: usize, n: usize)
+pub(crate) fn put_count(b: &mut [u8], i: usize, k: usize, n: usize)
     requires { ⌜ (place (i + 1) ≤ length (now b)) × (k < letterCount) × (n < 65536) ⌝ }
     ensures { λ _. ⌜ Put (place i + 4 + 2 * k) n (now (b .entry)) (now (b .exit)) ⌝ }
 {

@@ -20,7 +20,7 @@ pub enum Found {
 }
 
 // How many records of the kind there are.
-pub fn size_at(b: &[u8], kind: Kind) -> usize
+pub(crate) fn size_at(b: &[u8], kind: Kind) -> usize
     requires { ⌜ headerLength ≤ length (now b) ⌝ }
     ensures { λ r. ⌜ Num (size (now (b .entry)) kind) r ⌝ }
 {
@@ -32,7 +32,7 @@ pub fn size_at(b: &[u8], kind: Kind) -> usize
 }
 
 // The number of the kind's first record.
-pub fn first_of(b: &[u8], kind: Kind) -> usize
+pub(crate) fn first_of(b: &[u8], kind: Kind) -> usize
     requires { ⌜ headerLength ≤ length (now b) ⌝ }
     ensures { λ r. ⌜ (r ≡ from (now (b .entry)) kind) × (r < 131072) ⌝ }
 {
@@ -44,7 +44,7 @@ pub fn first_of(b: &[u8], kind: Kind) -> usize
 }
 
 // Key and id of record i as one number.
-pub fn spot_at(b: &[u8], i: usize) -> usize
+pub(crate) fn spot_at(b: &[u8], i: usize) -> usize
     requires { ⌜ place (i + 1) ≤ length (now b) ⌝ }
     ensures { λ r. ⌜ (r ≡ spot (now (b .entry)) i) × (r < 67174400) ⌝ }
 {
@@ -52,7 +52,7 @@ pub fn spot_at(b: &[u8], i: usize) -> usize
 }
 
 // The number of the kind's first record whose key and id are `want` or more, or of the end of its part.
-pub fn place_of(b: &[u8], kind: Kind, want: usize) -> usize
+pub(crate) fn place_of(b: &[u8], kind: Kind, want: usize) -> usize
     requires { ⌜ Good (now b) ⌝ }
     ensures { λ r. ⌜ Lowest (now (b .entry)) kind want r ⌝ }
 {
@@ -70,7 +70,7 @@ pub fn place_of(b: &[u8], kind: Kind, want: usize) -> usize
 }
 
 // The record of this kind, key and id, or where it would be inserted.
-pub fn find(b: &[u8], kind: Kind, x: usize, y: usize) -> Found
+pub(crate) fn find(b: &[u8], kind: Kind, x: usize, y: usize) -> Found
     requires { ⌜ Good (now b) × IsName x × IsName y ⌝ }
     ensures { λ r. ⌜ Finds (now (b .entry)) kind x y r ⌝ }
 {

@@ -79,7 +79,7 @@ fn digits(text: &[u8], c: Cursor, least: usize, most: usize, n: usize) -> Piece
 }
 
 // A number from `least` to `most` at the cursor, without leading zeros.
-pub fn number(text: &[u8], c: Cursor, least: usize, most: usize) -> Piece
+pub(crate) fn number(text: &[u8], c: Cursor, least: usize, most: usize) -> Piece
     requires { ⌜ (least < 100000) × (most < 100000) ⌝ }
     ensures { λ r. ⌜ seen (now (text .entry)) r ≡ readNumber least most (drop (c .at) (now (text .entry))) ⌝ }
 {
@@ -102,7 +102,7 @@ pub fn number(text: &[u8], c: Cursor, least: usize, most: usize) -> Piece
 }
 
 // The count at the cursor, which stands after a letter.
-pub fn count(text: &[u8], c: Cursor) -> Piece
+pub(crate) fn count(text: &[u8], c: Cursor) -> Piece
     ensures { λ r. ⌜ seen (now (text .entry)) r ≡ readCount (drop (c .at) (now (text .entry))) ⌝ }
 {
     let at = c.at;
@@ -118,7 +118,7 @@ pub fn count(text: &[u8], c: Cursor) -> Piece
 }
 
 // `;` at the cursor.
-pub fn mark(text: &[u8], c: Cursor) -> Piece
+pub(crate) fn mark(text: &[u8], c: Cursor) -> Piece
     ensures { λ r. ⌜ seen (now (text .entry)) r ≡ readMark (drop (c .at) (now (text .entry))) ⌝ }
 {
     let at = c.at;

@@ -70,7 +70,7 @@ fn replace(b: &mut [u8], m: &[u8]) -> u8
 }
 
 // The halves that are present of a message whose tests have passed.
-pub fn carry(b: &mut [u8], m: &[u8]) -> u8
+pub(crate) fn carry(b: &mut [u8], m: &[u8]) -> u8
     requires { ⌜ Tested (now b) (now m) ⌝ }
     ensures { λ r. ⌜ Carried (now (b .entry)) (changes (now (m .entry))) (now (b .entry)) (r, now (b .exit)) ⌝ }
 {

@@ -35,7 +35,7 @@ fn refused(text: &[u8], piece: Piece) -> Scan
 }
 
 // Reads a text through, and changes nothing.
-pub fn scan_text(text: &[u8], kind: Kind) -> Scan
+pub(crate) fn scan_text(text: &[u8], kind: Kind) -> Scan
     ensures { λ r. ⌜ Scanned kind (now (text .entry)) r ⌝ }
 {
     if text.len() == 0 {

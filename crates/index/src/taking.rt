@@ -36,7 +36,7 @@ fn put_entry(b: &mut [u8], i: usize, key: usize, name: usize, counts: &[usize; L
 }
 
 // Writes the n records of a text that is of a set, from record `first` of a block on.
-pub fn fill(b: &mut [u8], first: usize, text: &[u8], kind: Kind, key: usize, n: usize)
+pub(crate) fn fill(b: &mut [u8], first: usize, text: &[u8], kind: Kind, key: usize, n: usize)
     requires { ⌜ (key < 65536) × (place (first + n) ≤ length (now b)) ⌝ }
     requires { ⌜ Scanned kind (now text) (Scan.Records n) ⌝ }
     ensures { λ _. ⌜ ((es : List Entry) → Writes kind es (now (text .entry)) → Filled key first es n (now (b .entry)) (now (b .exit))) ⌝ }

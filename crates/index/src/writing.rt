@@ -90,7 +90,7 @@ fn put_next(out: &mut [u8], at: usize, begun: bool, b: &[u8], i: usize) -> usize
 }
 
 // The set that the records from number `first` up to number `end` are.
-pub fn put_set(out: &mut [u8], b: &[u8], first: usize, end: usize) -> usize
+pub(crate) fn put_set(out: &mut [u8], b: &[u8], first: usize, end: usize) -> usize
     requires { ⌜ (first ≤ end) × (place end ≤ length (now b)) × (length (now b) ≤ greatestLength) ⌝ }
     ensures { λ r. ⌜ Puts 0 (textOf (entriesFrom (now (b .entry)) first (end - first))) (now (out .entry)) r (now (out .exit)) ⌝ }
 {

@@ -27,7 +27,7 @@ fn bound_at(block: &[u8], name: u16) -> Bound
 }
 
 // The rights that the filter of an object lets through: all, if there is none.
-pub fn filter_of(block: &[u8], object: u16) -> u8
+pub(crate) fn filter_of(block: &[u8], object: u16) -> u8
     requires { ⌜ Good (now block) × IsName object ⌝ }
     ensures { λ r. ⌜ Mask r (Passes (now (block .entry)) object) ⌝ }
 {

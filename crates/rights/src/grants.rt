@@ -45,7 +45,7 @@ fn search(
 }
 
 // The requested rights that the user reaches on the object, whatever the filter.
-pub fn granted(block: &[u8], user: u16, object: u16, request: u8) -> u8
+pub(crate) fn granted(block: &[u8], user: u16, object: u16, request: u8) -> u8
     requires { ⌜ Sized (now block) × Good (now block) ⌝ }
     requires { ⌜ IsName user × IsName object ⌝ }
     ensures { λ r. ⌜ Mask r (λ k. Granted (now (block .entry)) user object k × In k request) ⌝ }

@@ -43,7 +43,7 @@ fn lowest(block: &[u8], kind: Kind, name: u16) -> u16
 }
 
 // The records of the kind whose key is the name.
-pub fn records_of(block: &[u8], kind: Kind, name: u16) -> Span
+pub(crate) fn records_of(block: &[u8], kind: Kind, name: u16) -> Span
     requires { ⌜ Good (now block) × IsName name ⌝ }
     ensures { λ r. ⌜ Keyed (now (block .entry)) kind name r ⌝ }
 {

@@ -59,7 +59,7 @@ fn rounds(block: &[u8], nets: &[u8; 2048], marks: &mut [u8], spare: &mut [u8], l
 }
 
 // The marks of all names, each with the rights that a chain of at most `limit` M records from `start` carries to it.
-pub fn side(block: &[u8], nets: &[u8; 2048], start: u16, limit: usize) -> [u8; 1024]
+pub(crate) fn side(block: &[u8], nets: &[u8; 2048], start: u16, limit: usize) -> [u8; 1024]
     requires { ⌜ Good (now block) × (Nets (now block) (now nets) × IsName start) ⌝ }
     ensures { λ r. ⌜ Side (now (block .entry)) limit start r ⌝ }
 {
