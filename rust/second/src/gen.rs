@@ -246,11 +246,12 @@ pub fn set_text(rng: &mut Rng, index: &Index, kind: usize) -> Vec<u8> {
     let mut text = text(&set);
     for _ in 0..rng.pick(&[0, 0, 0, 1, 1, 2]) {
         let at = rng.below(text.len() as u64 + 1) as usize;
-        match rng.below(6) {
+        match rng.below(7) {
             0 => text.insert(at, rng.pick(b"0123456789;MRUPmrup x")),
             1 if at < text.len() => drop(text.remove(at)),
             2 if at < text.len() => text[at] = rng.pick(b"0123456789;MRUPmrup"),
             3 => text.push(b';'),
+            5 => text = [&text[..], b";", &text[..]].concat(),
             4 => text.splice(at..at, rng.pick(&[&b"65536"[..], b"4294967298", b"1", b"00", b";;", b"1024;M"]).iter().copied()).for_each(drop),
             _ => text.extend([b';', b'9', b';', rng.pick(LETTERS)]),
         }

@@ -1,0 +1,75 @@
+-- No second number and no second bytes satisfy the promise of the same call.
+use Prim.Native.Nat.{ℕ, _/_, _%_}
+use mathlib.Core.Path.{_≡_, sym, ap, _∙_}
+use mathlib.Core.List.{List}
+use native.Mathlib.Omega.{arith}
+use Rattle.index.specs.Calls.{Makes, Message, WritesSet, ReadsSet}
+use Rattle.index.proofs.OneCall.{one-make, one-write, one-read}
+use Rattle.index.proofs.OneMessage.{one-message}
+use Rattle.rights.specs.Questions.{Full, Short}
+use Rattle.rights.proofs.OneAnswer.{one-full, one-short}
+use Rattle.anaqsiro.specs.Returned.{Packed, Returned, MakeReturns, MessageReturns, RightsReturns, MayReturns, WriteReturns, ReadReturns}
+
+-- The number is the upper half of what is returned, and the value the lower.
+pub halves : {n v r : ℕ} → Packed n v r → (n ≡ r / 4294967296) × (v ≡ r % 4294967296)
+halves p = (omega arith, omega arith)
+
+-- There is one outcome at most.
+abbrev One : {O : Type 0} → (O → Type 0) → Type 0
+One {O} Outcome = (a c : O) → Outcome a → Outcome c → a ≡ c
+
+-- So a call with one outcome (its number, its value, and what it leaves) returns one number and leaves one thing.
+module _ {S : Type 0} (Outcome : ℕ × ℕ × S → Type 0) (one : One Outcome) (r r₂ : ℕ) (s s₂ : S) where
+  one-return : Returned (λ n v. Outcome (n, v, s)) r → Returned (λ n v. Outcome (n, v, s₂)) r₂ → (r ≡ r₂) × (s ≡ s₂)
+  one-return (n, v, p, a) (m, w, q, c) =
+      let e = one (n, v, s) (m, w, s₂) a c in
+      let en : n ≡ m = ap (λ (o : ℕ × ℕ × S). o .0) e in
+      let ev : v ≡ w = ap (λ (o : ℕ × ℕ × S). o .1) e in
+      (omega arith, ap (λ (o : ℕ × ℕ × S). o .2) e)
+
+-- ---- the calls that return a number only
+
+module _ (Outcome : ℕ × List ℕ → Type 0) (one : One Outcome) where
+  one-number : One (λ (o : ℕ × ℕ × List ℕ). (o .1 ≡ 0) × Outcome (o .0, o .2))
+  one-number a c p q =
+      let e = one (a .0, a .2) (c .0, c .2) (p .1) (q .1) in
+      let z : a .1 ≡ c .1 = p .0 ∙ sym (q .0) in
+      λ i. (e i .0, z i, e i .1)
+
+pub one-make-return : (b : List ℕ) (r r₂ : ℕ) (b′ b₂′ : List ℕ) → MakeReturns b r b′ → MakeReturns b r₂ b₂′
+    → (r ≡ r₂) × (b′ ≡ b₂′)
+unfolding MakeReturns
+one-make-return b = one-return _ (one-number (Makes b) (one-make b))
+
+pub one-message-return : (b m : List ℕ) (r r₂ : ℕ) (b′ b₂′ : List ℕ) → MessageReturns b m r b′ → MessageReturns b m r₂ b₂′
+    → (r ≡ r₂) × (b′ ≡ b₂′)
+unfolding MessageReturns
+one-message-return b m = one-return _ (one-number (Message b m) (one-message b m))
+
+-- ---- the calls on sets
+
+module _ (b : List ℕ) (kind x : ℕ) (s : List ℕ) (r r₂ : ℕ) (s′ s₂′ : List ℕ) where
+  pub one-write-return : WriteReturns b kind x s r s′ → WriteReturns b kind x s r₂ s₂′ → (r ≡ r₂) × (s′ ≡ s₂′)
+  unfolding WriteReturns
+  one-write-return = one-return (WritesSet b kind x s) (one-write b kind x s) r r₂ s′ s₂′
+
+  pub one-read-return : ReadReturns b kind x s r s′ → ReadReturns b kind x s r₂ s₂′ → (r ≡ r₂) × (s′ ≡ s₂′)
+  unfolding ReadReturns
+  one-read-return = one-return (ReadsSet b kind x s) (one-read b kind x s) r r₂ s′ s₂′
+
+-- ---- the questions, which leave all as it was
+
+module _ (Outcome : ℕ × ℕ → Type 0) (one : One Outcome) where
+  one-answer : (r r₂ : ℕ) → Returned (λ n v. Outcome (n, v)) r → Returned (λ n v. Outcome (n, v)) r₂ → r ≡ r₂
+  one-answer r r₂ p q =
+      one-return (λ (a : ℕ × ℕ × Unit {0}). Outcome (a .0, a .1))
+      (λ a c s t. let e = one (a .0, a .1) (c .0, c .1) s t in λ i. (e i .0, e i .1, tt)) r r₂ tt tt p q .0
+
+module _ (b : List ℕ) (u o request : ℕ) where
+  pub one-rights-return : (r r₂ : ℕ) → RightsReturns b u o request r → RightsReturns b u o request r₂ → r ≡ r₂
+  unfolding RightsReturns
+  one-rights-return = one-answer (Full b u o request) (one-full b u o request)
+
+  pub one-may-return : (r r₂ : ℕ) → MayReturns b u o request r → MayReturns b u o request r₂ → r ≡ r₂
+  unfolding MayReturns
+  one-may-return = one-answer (Short b u o request) (one-short b u o request)

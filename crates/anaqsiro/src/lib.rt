@@ -1,0 +1,77 @@
+// The C interface: each call returns the refusal's number times 2^32, plus a value, which is 0 on refusal.
+use index::Took;
+use index::Wrote;
+use rights::Answer;
+use rights::Rights;
+ghost use mathlib.Core.Path.{_≡_};
+ghost use Prim.Native.Nat.{_<_};
+ghost use Rattle.anaqsiro.specs.Returned.{Packed, MakeReturns, MessageReturns, RightsReturns, MayReturns, WriteReturns, ReadReturns};
+
+// The number and the value as one number.
+fn packed(number: u8, value: u64) -> u64
+    requires { ⌜ value < 4294967296 ⌝ }
+    ensures { λ r. ⌜ Packed number value r ⌝ }
+{
+    4294967296 * number as u64 + value
+}
+
+// An empty block.
+#[no_mangle]
+pub extern "C" fn anaqsiro_make(block: &mut [u8]) -> u64
+    ensures { λ r. ⌜ MakeReturns (now (block .entry)) r (now (block .exit)) ⌝ }
+{
+    packed(index::make(block), 0)
+}
+
+// A message to a block.
+#[no_mangle]
+pub extern "C" fn anaqsiro_message(block: &mut [u8], message: &[u8]) -> u64
+    ensures { λ r. ⌜ MessageReturns (now (block .entry)) (now (message .entry)) r (now (block .exit)) ⌝ }
+{
+    packed(index::message(block, message), 0)
+}
+
+// The full question; the value is the rights held of those requested.
+#[no_mangle]
+pub extern "C" fn anaqsiro_rights(block: &[u8], user: u64, object: u64, request: u64) -> u64
+    ensures { λ r. ⌜ RightsReturns (now (block .entry)) user object request r ⌝ }
+{
+    match rights::rights_of(block, user, object, request) {
+        Rights::Held(mask) => packed(0, mask as u64),
+        Rights::Refused(number) => packed(number, 0),
+    }
+}
+
+// The short question; the value is 1 for yes and 0 for no.
+#[no_mangle]
+pub extern "C" fn anaqsiro_may(block: &[u8], user: u64, object: u64, request: u64) -> u64
+    ensures { λ r. ⌜ MayReturns (now (block .entry)) user object request r ⌝ }
+{
+    match rights::may(block, user, object, request) {
+        Answer::Yes => packed(0, 1),
+        Answer::No => packed(0, 0),
+        Answer::Refused(number) => packed(number, 0),
+    }
+}
+
+// A set is written as text; the value is the text's length.
+#[no_mangle]
+pub extern "C" fn anaqsiro_write(block: &[u8], kind: u64, key: u64, out: &mut [u8]) -> u64
+    ensures { λ r. ⌜ WriteReturns (now (block .entry)) kind key (now (out .entry)) r (now (out .exit)) ⌝ }
+{
+    match index::write_set(block, kind, key, out) {
+        Wrote::Text(length) => packed(0, length as u64),
+        Wrote::Refused(number) => packed(number, 0),
+    }
+}
+
+// A set is read from text; the value is how many records it has.
+#[no_mangle]
+pub extern "C" fn anaqsiro_read(block: &mut [u8], kind: u64, key: u64, text: &[u8]) -> u64
+    ensures { λ r. ⌜ ReadReturns (now (block .entry)) kind key (now (text .entry)) r (now (block .exit)) ⌝ }
+{
+    match index::read_set(block, kind, key, text) {
+        Took::Set(records) => packed(0, records as u64),
+        Took::Refused(number) => packed(number, 0),
+    }
+}

@@ -1,0 +1,44 @@
+-- The test of each case of the table, and that it means what the case says.
+use Prim.Native.Nat.{ℕ}
+use mathlib.Core.Path.{_≡_, subst}
+use mathlib.Core.Bool.{true}
+use mathlib.Core.List.{List, [], _∷_}
+use lib.ListN.{length}
+use Rattle.index.specs.Numbers.{Each}
+use Rattle.index.specs.Message.{kindOf, changes}
+use Rattle.index.specs.Calls.{Message}
+use Rattle.index.specs.Text.{textOf, setOf}
+use Rattle.index.proofs.MessageTest.{messageTest, message-test, lastOf}
+use Rattle.tight.specs.Examples.{Case, Says}
+use Rattle.tight.proofs.BlockTest.{blockTest}
+use Rattle.tight.proofs.RightsTest.{rightsTest, rights-test, everywhereTest, everywhere-test}
+use Rattle.tight.proofs.TextTest.{setTest, text-test, wrongTest, wrong-test, empty-text}
+use Rattle.tight.proofs.RefusedTest.{changeTest, refused-test}
+
+-- The test of a case. An accepted message goes through the blocks ds; a refused one is accepted by another block, b₀.
+abbrev pub Test : Case → Type 0
+Test (Case.rights b u o mask) = rightsTest b u mask o ≡ true
+Test (Case.everywhere b u mask) = everywhereTest b u mask ≡ true
+Test (Case.text b kind x t n) =
+    (setTest b kind x ≡ true) × (textOf (setOf b (kindOf kind) x) ≡ t) × (length (setOf b (kindOf kind) x) ≡ n)
+Test (Case.wrong t) = wrongTest t ≡ true
+Test Case.empty = Unit {0}
+Test (Case.accepted b m b′) = (ds : List (List ℕ)) × (messageTest b m ds ≡ true) × (lastOf b ds ≡ b′)
+Test (Case.refused b m n) =
+    (b₀ : List ℕ) × (ds : List (List ℕ)) × (messageTest b₀ m ds ≡ true) × (blockTest b ≡ true)
+    × (changeTest (changes m) b n ≡ true)
+
+-- Each test means what its case says.
+means : (c : Case) → Test c → Says c
+means (Case.rights b u o mask) e = rights-test b u mask o e
+means (Case.everywhere b u mask) e = everywhere-test b u mask e
+means (Case.text b kind x t n) e = text-test b kind x t n (e .0) (e .1) (e .2)
+means (Case.wrong t) e = wrong-test t e
+means Case.empty e = empty-text
+means (Case.accepted b m b′) e = subst (λ (d : List ℕ). Message b m (0, d)) (e .2) (message-test b m (e .0) (e .1))
+means (Case.refused b m n) e =
+    refused-test (e .0) (lastOf (e .0) (e .1)) b m n (message-test (e .0) m (e .1) (e .2)) (e .3) (e .4)
+
+pub all-mean : (cs : List Case) → Each Test cs → Each Says cs
+all-mean [] e = tt
+all-mean (c ∷ cs) e = (means c (e .0), all-mean cs (e .1))

@@ -1,0 +1,13 @@
+-- The theorems.
+pub mod FiveEmpty
+pub mod Demand3
+pub mod Mill
+pub mod Starred
+pub mod NotVacuous
+-- What they rest on: one outcome for each promise, and the tests that compute.
+pub mod Programs
+pub mod BlockTest
+pub mod RightsTest
+pub mod TextTest
+pub mod RefusedTest
+pub mod CaseTest

@@ -1,0 +1,229 @@
+-- Each number that 01 gives to a call is given for some input.
+use Prim.Native.Nat.{ℕ, _<_}
+use mathlib.Core.Path.{_≡_, refl}
+use mathlib.Core.List.{List, [], _∷_, _++_}
+use mathlib.Core.Logic.{inl, inr}
+use native.Mathlib.Omega.{arith}
+use Rattle.index.specs.declared.Kind.the-variants.{Permission}
+use Rattle.index.specs.Letters.{letters, lettersOf}
+use Rattle.index.specs.Numbers.{Answers, Each}
+use Rattle.index.specs.Block.{number, countAt, countFrom, count, room, Sized}
+use Rattle.index.specs.Message.{IsKind, kindOf, flags, halfAt, previous, new, changes, standing, WellFormed, Named, Masked}
+use Rattle.index.specs.Text.{Writes, digitsOf, decimal, pieceOf, piecesOf, entryText, textOf, countsAt, setFrom, setOf}
+use Rattle.index.specs.Reading.{digit, reaches, readDigits, readNumber, readCount, readLetter, readCounts, readMark, readRecord, readMore, readRecords, parse}
+use Rattle.index.specs.Calls.{blockNeeds, makeNeeds, messageNeeds, setNeeds, writeNeeds, readNeeds, Makes, Message, WritesSet, ReadsSet}
+use Rattle.index.proofs.Firsts.{All, first-all, passed-first, refuses, answers-first}
+use Rattle.index.proofs.ReadSets.{parse-sound}
+use Rattle.index.proofs.GoodTest.{good-test}
+use Rattle.index.proofs.MillHistory.{made}
+use Rattle.rights.specs.Questions.{questionNeeds, Limited, HoldsAll, Full, Short}
+use Rattle.tight.specs.Blocks.{zeros, half, giving, moving, nothing, reads, give, withdraw}
+use Rattle.tight.specs.Examples.{twoRecords}
+use Rattle.tight.specs.EachNumber.{MakeGives, MessageGives, WriteGives, ReadGives, QuestionsGive, makeNumbers, messageNumbers, writeNumbers, readNumbers, questionNumbers}
+use Rattle.tight.proofs.Programs.{accepted-full}
+use Rattle.tight.proofs.Starred.{_and_, texts-right, limits-right}
+use Rattle.tight.proofs.RefusedTest.{refused-test}
+use Rattle.tight.proofs.Mill.{first-given, both-withdrawn, held-by-one}
+
+-- ---- a requirement that does not hold gives its number
+
+module _ (b : List ℕ) (r : ℕ) (above : 0 < r) where
+  not-zero : r ≡ 0 → ⊥
+  not-zero e = omega arith
+
+  first : (ts us : List (ℕ × Type 0)) → Answers ts r → Answers (ts ++ us) r
+  first ts us a = answers-first ts us not-zero a
+
+  message-gives : (m : List ℕ) → Answers (messageNeeds b m) r → MessageGives r
+  unfolding Message
+  message-gives m a = (b, m, b, refuses _ _ (messageNeeds b m) not-zero a)
+
+  sets-give : (kind x : ℕ) → Answers (setNeeds b kind x) r → WriteGives r × ReadGives r
+  unfolding WritesSet writeNeeds ReadsSet readNeeds
+  sets-give kind x a = (
+    (b, kind, x, [], (0, []), refuses _ _ (writeNeeds b kind x []) not-zero (first (setNeeds b kind x) _ a)),
+    (b, kind, x, [], (0, b), refuses _ _ (readNeeds b kind x []) not-zero (first (setNeeds b kind x) _ a)),
+  )
+
+  questions-give : (u o request : ℕ) → Answers (questionNeeds b u o request) r → QuestionsGive r
+  unfolding Full Short
+  questions-give u o request a =
+      let ts = questionNeeds b u o request in
+      (b, u, o, request, 0, 0, refuses _ _ ts not-zero a, refuses _ _ ts not-zero a)
+
+  -- Every call but make.
+  calls-give : Answers (blockNeeds b) r → MessageGives r × (WriteGives r × ReadGives r) × QuestionsGive r
+  unfolding messageNeeds setNeeds questionNeeds
+  calls-give a =
+      let bs = blockNeeds b in
+      (message-gives [] (first bs _ a), sets-give 1 0 (first bs _ a), questions-give 0 0 1 (first bs _ a))
+
+-- ---- the block: one of no bytes, and one whose header is all zero
+
+no-bytes : MessageGives 1 × (WriteGives 1 × ReadGives 1) × QuestionsGive 1
+unfolding blockNeeds Sized
+no-bytes = calls-give [] 1 (omega arith) (inl ((λ s. omega (arith, s .0)), refl))
+
+no-header : MessageGives 2 × (WriteGives 2 × ReadGives 2) × QuestionsGive 2
+unfolding blockNeeds Sized number
+no-header =
+    calls-give (zeros 16) 2 (omega arith) (inr ((omega arith, omega arith), inl ((λ g. omega (arith, g .m-offset)), refl)))
+
+-- ---- what each call is given, on the block of 36 bytes
+
+past-block : (us : List (ℕ × Type 0)) (r : ℕ) → Answers us r → Answers (blockNeeds nothing ++ us) r
+unfolding blockNeeds Sized number countAt lettersOf
+past-block us r a = inr ((omega arith, omega arith), inr (good-test nothing refl, a))
+
+-- Kind 0, and key 1024.
+no-kind : WriteGives 3 × ReadGives 3
+unfolding setNeeds IsKind
+no-kind = sets-give nothing 3 (omega arith) 0 9 (past-block _ 3 (inl ((λ k. omega (arith, k .0)), refl)))
+
+no-key : WriteGives 4 × ReadGives 4
+unfolding setNeeds IsKind
+no-key =
+    sets-give nothing 4 (omega arith) 1 1024
+    (past-block _ 4 (inr ((omega arith, omega arith), inl ((λ n. omega (arith, n)), refl))))
+
+-- User 1024, and request 0.
+no-user : QuestionsGive 4
+unfolding questionNeeds
+no-user = questions-give nothing 4 (omega arith) 1024 9 15 (past-block _ 4 (inl ((λ n. omega (arith, n .0)), refl)))
+
+no-request : QuestionsGive 5
+unfolding questionNeeds
+no-request =
+    questions-give nothing 5 (omega arith) 1 9 0
+    (past-block _ 5 (inr ((omega arith, omega arith), inl ((λ n. omega (arith, n .0)), refl))))
+
+-- A message of no bytes.
+no-message : MessageGives 3
+unfolding messageNeeds
+no-message = message-gives nothing 3 (omega arith) [] (past-block _ 3 (inl ((λ w. omega (arith, w .twelve)), refl)))
+
+-- A message with both halves has the form; one whose new half has the id 1024, and one whose new half has the mask 0.
+both-halves : (x y mask : ℕ) → WellFormed (moving 2 (half 9 1 2) (half x y mask))
+unfolding IsKind flags
+both-halves x y mask =
+    record {
+      twelve = refl;
+      kind = (omega arith, omega arith);
+      some-half = (omega arith, omega arith);
+      no-previous = λ e. absurd (omega arith);
+      no-new = λ e. absurd (omega arith);
+    }
+
+no-name : MessageGives 4
+unfolding messageNeeds Named flags halfAt previous new kindOf number
+no-name =
+    message-gives nothing 4 (omega arith) (moving 2 (half 9 1 2) (half 9 1024 2))
+    (past-block _ 4 (inr (both-halves 9 1024 2, inl ((λ n. omega (arith, n .1 .0 .1)), refl))))
+
+no-mask : MessageGives 5
+unfolding messageNeeds Named Masked flags halfAt previous new kindOf number
+no-mask =
+    message-gives nothing 5 (omega arith) (moving 2 (half 9 1 2) (half 9 1 0))
+    (past-block _ 5
+    (inr (
+      both-halves 9 1 0,
+      inr (((omega arith, omega arith), ((omega arith, omega arith), tt)), inl ((λ n. omega (arith, n .1 .0 .0)), refl)),
+    )))
+
+-- A withdrawal where nothing stands.
+none-stands : Message nothing withdraw (6, nothing)
+unfolding number countAt countFrom count lettersOf kindOf flags halfAt previous new changes standing
+none-stands = refused-test (reads 1) nothing nothing withdraw 6 both-withdrawn refl refl
+
+-- ---- sets, in the block with the set `1;R` of P and key 9
+
+set-passes : (x : ℕ) → x < 1024 → All (setNeeds (reads 1) 2 x)
+unfolding setNeeds blockNeeds Sized number countAt lettersOf IsKind
+set-passes x l = ((omega arith, omega arith), (good-test (reads 1) refl, ((omega arith, omega arith), (l, tt))))
+
+-- Its text does not go into a buffer of no bytes.
+no-buffer : WritesSet (reads 1) 2 9 [] (10, 0, [])
+unfolding WritesSet writeNeeds number countAt kindOf letters digitsOf decimal pieceOf piecesOf entryText textOf countsAt setFrom setOf
+no-buffer = passed-first _ (setNeeds (reads 1) 2 9) _ _ _ (set-passes 9 (omega arith)) (inl ((λ l. omega (arith, l)), refl))
+
+-- And there is no room for the same set of another key.
+set-written : Writes Permission (record { id = 1; counts = 0 ∷ 1 ∷ zeros 6 } ∷ []) (49 ∷ 59 ∷ 82 ∷ [])
+unfolding letters lettersOf digit reaches readDigits readNumber readCount readLetter readCounts readMark readRecord readMore readRecords parse
+set-written = parse-sound Permission (49 ∷ 59 ∷ 82 ∷ []) refl
+
+no-room : ReadsSet (reads 1) 2 10 (49 ∷ 59 ∷ 82 ∷ []) (8, 0, reads 1)
+unfolding ReadsSet readNeeds number kindOf room setFrom setOf
+no-room =
+    passed-first _ (setNeeds (reads 1) 2 10) _ _ _ (set-passes 10 (omega arith))
+    (inr ((_, set-written), inl ((λ fits. omega (arith, fits _ set-written)), refl)))
+
+-- ---- accepted questions: user 1 holds 2 of the 15 requested, so the short answer is no
+
+both-answered : QuestionsGive 0
+unfolding Short Limited HoldsAll
+both-answered =
+    let p = accepted-full (reads 1) 1 9 15 2 held-by-one in
+    let no : HoldsAll (reads 1) 1 9 15 → ⊥ =
+    λ all. omega (arith, p .1 .1 0 (omega arith) .1 (all 0 (omega arith) refl, refl)) in (
+      reads 1,
+      1,
+      9,
+      15,
+      2,
+      0,
+      held-by-one,
+      first-all _ _ (0, 0) (questionNeeds (reads 1) 1 9 15) (p .0)
+          (refl, omega arith, ((λ e. absurd (omega arith)), (λ h. absurd (no h)))),
+    )
+
+-- ---- each number
+
+pub make-numbers : Each MakeGives makeNumbers
+unfolding Makes makeNeeds Sized
+make-numbers =
+    (nothing, nothing, made nothing refl) and ([], [], inl ((λ s. omega (arith, s .0)), refl)) and tt
+
+pub message-numbers : Each MessageGives messageNumbers
+message-numbers =
+    (nothing, give, reads 1, first-given)
+    and no-bytes .0
+    and no-header .0
+    and no-message
+    and no-name
+    and no-mask
+    and (nothing, withdraw, nothing, none-stands)
+    and (reads 65535, give, reads 65535, limits-right .1 .0)
+    and (reads 1, giving 2 10 1 2, reads 1, limits-right .1 .1 .1 .0)
+    and tt
+
+pub write-numbers : Each WriteGives writeNumbers
+write-numbers =
+    (twoRecords, 2, 7, zeros 13, _, texts-right .0 .0 (zeros 13) (omega arith))
+    and no-bytes .1 .0
+    and no-header .1 .0
+    and no-kind .0
+    and no-key .0
+    and (reads 1, 2, 9, [], (0, []), no-buffer)
+    and tt
+
+pub read-numbers : Each ReadGives readNumbers
+unfolding Sized number countAt lettersOf IsKind
+read-numbers =
+    (twoRecords, 2, 7, _, (2, twoRecords), texts-right .0 .1)
+    and no-bytes .1 .1
+    and no-header .1 .1
+    and no-kind .1
+    and no-key .1
+    and (reads 1, 2, 10, _, (0, reads 1), no-room)
+    and (
+      nothing,
+      1,
+      9,
+      _,
+      (0, nothing),
+      texts-right .1 .0 nothing 1 9 (omega arith, omega arith) (good-test nothing refl) (omega arith, omega arith) (omega arith),
+    )
+    and tt
+
+pub question-numbers : Each QuestionsGive questionNumbers
+question-numbers = both-answered and no-bytes .2 and no-header .2 and no-user and no-request and tt

@@ -1,0 +1,145 @@
+-- Tests of texts that compute: the text of a set, and a text of none; and what holds of the empty text on every block.
+use Prim.Native.Nat.{ℕ, _+_, _≤_}
+use mathlib.Core.Path.{_≡_, refl, sym, ap, subst, _∙_}
+use mathlib.Core.Bool.{Bool, true, false, _&&_}
+use mathlib.Core.List.{List, [], _++_}
+use mathlib.Core.Logic.{inl, inr}
+use native.Mathlib.Omega.{arith}
+use borrow.Author.Tests.{ltb-true, leb-true}
+use lib.Dec.{ltb, leb}
+use lib.ListN.{length, drop}
+use Rattle.index.specs.declared.Kind.{Kind}
+use Rattle.index.specs.declared.Kind.the-variants.{Membership, Permission, Filter}
+use Rattle.index.specs.Block.{IsName, Sized, Good, records, room}
+use Rattle.index.specs.Message.{IsKind, kindOf}
+use Rattle.index.specs.Text.{Entry, textOf, setOf, IsSet, Writes, Replaced}
+use Rattle.index.specs.Calls.{blockNeeds, setNeeds, writeNeeds, readNeeds, Read, WritesSet, ReadsSet}
+use Rattle.index.specs.Reading.{Read as Reading, parse}
+use Rattle.index.specs.Reading.Read.{got, wrong}
+use Rattle.index.proofs.Tests.{both}
+use Rattle.index.proofs.Firsts.{first-sure}
+use Rattle.index.proofs.IsSet.{is-set}
+use Rattle.index.proofs.SetCounts.{set-counts}
+use Rattle.index.proofs.TextOnce.{writes-once, parse-wrong}
+use Rattle.tight.specs.Examples.{Anywhere}
+use Rattle.tight.proofs.BlockTest.{blockTest, block-test}
+
+-- ---- the text of a set
+
+abbrev pub setTest : List ℕ → ℕ → ℕ → Bool
+setTest b kind x = blockTest b && (leb 1 kind && (leb kind 3 && ltb x 1024))
+
+-- What a call about a set needs first.
+record Set (b : List ℕ) (kind x : ℕ) : Type 0 where
+  sized : Sized b
+  good : Good b
+  is-kind : IsKind kind
+  named : IsName x
+
+set-test : (b : List ℕ) (kind x : ℕ) → setTest b kind x ≡ true → Set b kind x
+unfolding IsKind
+set-test b kind x e =
+    let p = both (blockTest b) _ e in
+    let q = both (leb 1 kind) _ (p .1) in
+    let r = both (leb kind 3) (ltb x 1024) (q .1) in
+    let t = block-test b (p .0) in
+    record { sized = t .0; good = t .1; is-kind = (leb-true _ _ (q .0), leb-true _ _ (r .0)); named = ltb-true _ _ (r .1) }
+
+-- The records of a good block fit.
+fits : {b : List ℕ} → Good b → records b ≤ room b
+unfolding room
+fits g = omega (arith, g .fits)
+
+module _ (b : List ℕ) (kind x : ℕ) (h : Set b kind x) where
+  abbrev set : List Entry
+  set = setOf b (kindOf kind) x
+
+  written : Writes (kindOf kind) set (textOf set)
+  unfolding Writes
+  written = (is-set (h .good) (kindOf kind) x, refl)
+
+  writes-own : (out : List ℕ) → length (textOf set) ≤ length out
+      → WritesSet b kind x out (0, length (textOf set), textOf set ++ drop (length (textOf set)) out)
+  unfolding WritesSet writeNeeds setNeeds blockNeeds
+  writes-own out l = inr (h .sized, inr (h .good, inr (h .is-kind, inr (h .named, inr (l, refl)))))
+
+  -- The set is in the block already.
+  own : Replaced (kindOf kind) x set b b
+  own =
+      record {
+        good = h .good;
+        same-length = refl;
+        set = λ y k l. sym (set-counts b (kindOf kind) x y k);
+        other-keys = λ x′ y k n l. refl;
+        other-kinds = λ K x′ y k n l. refl;
+      }
+
+  reads-own : ReadsSet b kind x (textOf set) (0, length set, b)
+  unfolding ReadsSet readNeeds setNeeds blockNeeds
+  reads-own =
+      let room : (es : List Entry) → Writes (kindOf kind) es (textOf set) → records b + length es ≤ room b + length set =
+      λ es w.
+      omega (arith, fits (h .good), ap length (writes-once (kindOf kind) (textOf set) es set w written)) in
+      inr (
+        h .sized,
+        inr (h .good, inr (h .is-kind, inr (h .named, inr ((set, written), inr (room, (set, written, refl, refl, own)))))),
+      )
+
+pub text-test : (b : List ℕ) (kind x : ℕ) (t : List ℕ) (n : ℕ) → setTest b kind x ≡ true
+    → textOf (setOf b (kindOf kind) x) ≡ t → length (setOf b (kindOf kind) x) ≡ n
+    → ((out : List ℕ) → length t ≤ length out → WritesSet b kind x out (0, length t, t ++ drop (length t) out))
+    × ReadsSet b kind x t (0, n, b)
+text-test b kind x t n e p q =
+    let h = set-test b kind x e in (
+      subst (λ (t : List ℕ). (out : List ℕ) → length t ≤ length out
+          → WritesSet b kind x out (0, length t, t ++ drop (length t) out)) p (writes-own b kind x h),
+      subst (λ (n : ℕ). ReadsSet b kind x t (0, n, b)) q
+          (subst (λ (t : List ℕ). ReadsSet b kind x t (0, length (setOf b (kindOf kind) x), b)) p (reads-own b kind x h)),
+    )
+
+-- ---- a text of no set
+
+abbrev isWrong : Reading (List Entry) → Bool
+isWrong (got es t) = false
+isWrong (wrong t) = true
+
+abbrev pub wrongTest : List ℕ → Bool
+wrongTest t = isWrong (parse Membership t) && (isWrong (parse Permission t) && isWrong (parse Filter t))
+
+is-wrong : (kind : Kind) (t : List ℕ) → isWrong (parse kind t) ≡ true → (es : List Entry) → Writes kind es t → ⊥
+is-wrong kind t = go (parse kind t) refl
+  where
+    go : (r : Reading (List Entry)) → parse kind t ≡ r → isWrong r ≡ true → (es : List Entry) → Writes kind es t → ⊥
+    go (got fs s) p e = let z : _≡_ {A = ℕ} 0 1 = cc in absurd (omega arith)
+    go (wrong s) p e = parse-wrong kind t p
+
+no-set : (t : List ℕ) → wrongTest t ≡ true → (kind : Kind) (es : List Entry) → Writes kind es t → ⊥
+no-set t e kind = is-wrong kind t (go kind)
+  where
+    p : (isWrong (parse Membership t) ≡ true) × (isWrong (parse Permission t) && isWrong (parse Filter t) ≡ true)
+    p = both (isWrong (parse Membership t)) _ e
+
+    go : (K : Kind) → isWrong (parse K t) ≡ true
+    go Membership = p .0
+    go Permission = both (isWrong (parse Permission t)) _ (p .1) .0
+    go Filter = both (isWrong (parse Permission t)) _ (p .1) .1
+
+pub wrong-test : (t : List ℕ) → wrongTest t ≡ true → Anywhere (λ b kind x. ReadsSet b kind x t (9, 0, b))
+unfolding ReadsSet readNeeds setNeeds blockNeeds
+wrong-test t e b kind x s g k n =
+    inr (s, inr (g, inr (k, inr (n, inl ((λ w. no-set t e (kindOf kind) (w .0) (w .1)), refl)))))
+
+-- ---- the empty text, which is the empty set's
+
+none : (kind : Kind) → Writes kind [] []
+unfolding Writes textOf
+none kind = (IsSet.empty, refl)
+
+pub empty-text : Anywhere (λ b kind x. (o : ℕ × ℕ × List ℕ) → ReadsSet b kind x [] o → (o .0 ≡ 0) × (o .1 ≡ 0))
+unfolding ReadsSet readNeeds setNeeds blockNeeds
+empty-text b kind x s g k n o r =
+    let length-none : (es : List Entry) → Writes (kindOf kind) es [] → length es ≡ 0 =
+    λ es w. ap length (writes-once (kindOf kind) [] es [] w (none (kindOf kind))) in
+    let a = first-sure (λ n. (n, 0, b)) (Read b kind x []) o (readNeeds b kind x [])
+    (s, (g, (k, (n, (([], none (kindOf kind)), ((λ es w. omega (arith, fits g, length-none es w)), tt)))))) r in
+    (a .2, a .3 ∙ length-none (a .0) (a .1))

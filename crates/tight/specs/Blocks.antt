@@ -1,0 +1,76 @@
+-- Blocks and messages written out from their records: what the examples are about.
+use Prim.Native.Nat.{ℕ, suc, _+_, _*_, _/_, _%_}
+use mathlib.Core.List.{List, [], _∷_, _++_}
+use lib.ListN.{length}
+use Rattle.index.specs.Block.{recordLength, place}
+
+-- A 16-bit number in two bytes, the low one first.
+abbrev pub two : ℕ → List ℕ
+two n = n % 256 ∷ n / 256 ∷ []
+
+abbrev pub twos : List ℕ → List ℕ
+twos [] = []
+twos (n ∷ ns) = two n ++ twos ns
+
+abbrev pub zeros : ℕ → List ℕ
+zeros ℕ.zero = []
+zeros (suc n) = 0 ∷ zeros n
+
+-- Letter k of a mask, for each of the eight.
+abbrev pub bits : ℕ → List ℕ
+bits mask =
+    mask % 2 ∷ mask / 2 % 2 ∷ mask / 4 % 2 ∷ mask / 8 % 2 ∷ mask / 16 % 2 ∷ mask / 32 % 2 ∷ mask / 64 % 2
+    ∷ mask / 128 % 2 ∷ []
+
+-- A record: its key, its id, and its counts in letter order.
+pub record Row : Type 0 where
+  pub key : ℕ
+  pub id : ℕ
+  pub counts : List ℕ
+
+-- What one statement with this mask gives: each of its letters counts 1.
+abbrev pub once : ℕ → ℕ → ℕ → Row
+once x y mask = record { key = x; id = y; counts = bits mask }
+
+abbrev pub rows : List Row → List ℕ
+rows [] = []
+rows (r ∷ rs) = two (r .key) ++ (two (r .id) ++ (twos (r .counts) ++ rows rs))
+
+-- The block with these M, P and F records and room for n records more.
+abbrev pub block : List Row → List Row → List Row → ℕ → List ℕ
+block ms ps fs n =
+    let m = length ms in
+    let p = length ps in
+    let f = length fs in
+    twos (m ∷ p ∷ f ∷ 0 ∷ place 0 ∷ place m ∷ place (m + p) ∷ place (m + p + f) ∷ [])
+    ++ (rows ms ++ (rows ps ++ (rows fs ++ zeros (recordLength * n))))
+
+-- ---- messages
+
+abbrev pub half : ℕ → ℕ → ℕ → List ℕ
+half x y mask = two x ++ (two y ++ (mask ∷ []))
+
+-- A new statement, one withdrawn, and one that changes from the first half to the second. The kind: 1 M, 2 P, 3 F.
+abbrev pub giving : ℕ → ℕ → ℕ → ℕ → List ℕ
+giving kind x y mask = kind ∷ 2 ∷ (zeros 5 ++ half x y mask)
+
+abbrev pub withdrawing : ℕ → ℕ → ℕ → ℕ → List ℕ
+withdrawing kind x y mask = kind ∷ 1 ∷ (half x y mask ++ zeros 5)
+
+abbrev pub moving : ℕ → List ℕ → List ℕ → List ℕ
+moving kind before after = kind ∷ 3 ∷ (before ++ after)
+
+-- ---- the mill's own case: R on key 9 for id 1, in a block of 36 bytes
+
+abbrev pub nothing : List ℕ
+nothing = block [] [] [] 1
+
+-- The block in which n statements give it.
+abbrev pub reads : ℕ → List ℕ
+reads n = block [] (record { key = 9; id = 1; counts = 0 ∷ n ∷ zeros 6 } ∷ []) [] 0
+
+abbrev pub give : List ℕ
+give = giving 2 9 1 2
+
+abbrev pub withdraw : List ℕ
+withdraw = withdrawing 2 9 1 2

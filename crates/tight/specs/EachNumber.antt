@@ -1,0 +1,41 @@
+-- 01, "Numbers a caller can get": which calls give which numbers. A call gives a number when it does so for some input.
+use Prim.Native.Nat.{ℕ}
+use mathlib.Core.List.{List, [], _∷_}
+use Rattle.index.specs.Calls.{Makes, Message, WritesSet, ReadsSet}
+use Rattle.rights.specs.Questions.{Full, Short}
+
+abbrev pub MakeGives : ℕ → Type 0
+MakeGives n = (b : List ℕ) × (b′ : List ℕ) × Makes b (n, b′)
+
+abbrev pub MessageGives : ℕ → Type 0
+MessageGives n = (b : List ℕ) × (m : List ℕ) × (b′ : List ℕ) × Message b m (n, b′)
+
+abbrev pub WriteGives : ℕ → Type 0
+WriteGives n =
+    (b : List ℕ) × (kind : ℕ) × (x : ℕ) × (out : List ℕ) × (r : ℕ × List ℕ) × WritesSet b kind x out (n, r .0, r .1)
+
+abbrev pub ReadGives : ℕ → Type 0
+ReadGives n =
+    (b : List ℕ) × (kind : ℕ) × (x : ℕ) × (text : List ℕ) × (r : ℕ × List ℕ) × ReadsSet b kind x text (n, r .0, r .1)
+
+-- The two questions, with the same input.
+abbrev pub QuestionsGive : ℕ → Type 0
+QuestionsGive n =
+    (b : List ℕ) × (u : ℕ) × (o : ℕ) × (request : ℕ) × (mask : ℕ) × (answer : ℕ) × Full b u o request (n, mask)
+    × Short b u o request (n, answer)
+
+-- Its column "calls", read the other way: the numbers of each call.
+abbrev pub makeNumbers : List ℕ
+makeNumbers = 0 ∷ 1 ∷ []
+
+abbrev pub messageNumbers : List ℕ
+messageNumbers = 0 ∷ 1 ∷ 2 ∷ 3 ∷ 4 ∷ 5 ∷ 6 ∷ 7 ∷ 8 ∷ []
+
+abbrev pub writeNumbers : List ℕ
+writeNumbers = 0 ∷ 1 ∷ 2 ∷ 3 ∷ 4 ∷ 10 ∷ []
+
+abbrev pub readNumbers : List ℕ
+readNumbers = 0 ∷ 1 ∷ 2 ∷ 3 ∷ 4 ∷ 8 ∷ 9 ∷ []
+
+abbrev pub questionNumbers : List ℕ
+questionNumbers = 0 ∷ 1 ∷ 2 ∷ 4 ∷ 5 ∷ []

@@ -1,0 +1,107 @@
+-- 01, "Examples to hold it to": the starred ones, as one table. A case says what it says by the promises of the calls.
+use Prim.Native.Nat.{ℕ, _≤_}
+use mathlib.Core.Path.{_≡_}
+use mathlib.Core.List.{List, [], _∷_, _++_}
+use lib.ListN.{length, drop}
+use Rattle.index.specs.Block.{IsName, Sized, Good}
+use Rattle.index.specs.Message.{IsKind}
+use Rattle.index.specs.Calls.{Message, WritesSet, ReadsSet}
+use Rattle.rights.specs.Questions.{Full}
+use Rattle.tight.specs.Blocks.{once, block, zeros, half, giving, moving, nothing, reads, give, withdraw}
+
+pub data Case : Type 0 where
+  -- on the block, the user holds these rights on the object
+  rights : (block : List ℕ) (user object mask : ℕ) → Case
+  -- on the block, the user holds these rights on every object
+  everywhere : (block : List ℕ) (user mask : ℕ) → Case
+  -- the set of the kind and key in the block has n records and is written so, and the text is read back
+  text : (block : List ℕ) (kind key : ℕ) (text : List ℕ) (n : ℕ) → Case
+  -- the text is refused with 9
+  wrong : (text : List ℕ) → Case
+  -- the empty text is accepted, with 0 records
+  empty : Case
+  -- the message is accepted, and the block is then this
+  accepted : (block message after : List ℕ) → Case
+  -- the message is refused with the number, and the block is as it was
+  refused : (block message : List ℕ) (number : ℕ) → Case
+
+-- On every good block, for every kind and key.
+abbrev pub Anywhere : (List ℕ → ℕ → ℕ → Type 0) → Type 0
+Anywhere P = (b : List ℕ) (kind x : ℕ) → Sized b → Good b → IsKind kind → IsName x → P b kind x
+
+abbrev pub Says : Case → Type 0
+Says (Case.rights b u o mask) = Full b u o 15 (0, mask)
+Says (Case.everywhere b u mask) = (o : ℕ) → IsName o → Full b u o 15 (0, mask)
+Says (Case.text b kind x t n) =
+    ((out : List ℕ) → length t ≤ length out → WritesSet b kind x out (0, length t, t ++ drop (length t) out))
+    × ReadsSet b kind x t (0, n, b)
+Says (Case.wrong t) = Anywhere (λ b kind x. ReadsSet b kind x t (9, 0, b))
+Says Case.empty =
+    Anywhere (λ b kind x. (o : ℕ × ℕ × List ℕ) → ReadsSet b kind x [] o → (o .0 ≡ 0) × (o .1 ≡ 0))
+Says (Case.accepted b m b′) = Message b m (0, b′)
+Says (Case.refused b m n) = Message b m (n, b)
+
+-- The block with one P record, as one statement with this mask leaves it.
+abbrev pub granted : ℕ → List ℕ
+granted mask = block [] (once 9 1 mask ∷ []) [] 0
+
+-- "id 3 with M, R, U once, id 12 with M, R once and U twice"
+abbrev pub twoRecords : List ℕ
+twoRecords = block [] (once 7 3 7 ∷ record { key = 7; id = 12; counts = 1 ∷ 1 ∷ 2 ∷ zeros 5 } ∷ []) [] 0
+
+abbrev pub masks : List Case
+masks =
+    -- "P mask 135 gives net 7; 79 gives 11."
+    Case.accepted nothing (giving 2 9 1 135) (granted 135)
+    ∷ Case.rights (granted 135) 1 9 7
+    ∷ Case.accepted nothing (giving 2 9 1 79) (granted 79)
+    ∷ Case.rights (granted 79) 1 9 11 ∷ []
+
+abbrev pub texts : List Case
+texts =
+    -- `3;MRU;12;MRU2`
+    Case.text twoRecords 2 7 (51 ∷ 59 ∷ 77 ∷ 82 ∷ 85 ∷ 59 ∷ 49 ∷ 50 ∷ 59 ∷ 77 ∷ 82 ∷ 85 ∷ 50 ∷ []) 2
+    -- "Texts `3;M1`, `03;M`, `3;RM`, `3;M;`, `3;M0`, `3;`: 9 each. Empty text: accepted, 0 records."
+    ∷ Case.wrong (51 ∷ 59 ∷ 77 ∷ 49 ∷ [])
+    ∷ Case.wrong (48 ∷ 51 ∷ 59 ∷ 77 ∷ [])
+    ∷ Case.wrong (51 ∷ 59 ∷ 82 ∷ 77 ∷ [])
+    ∷ Case.wrong (51 ∷ 59 ∷ 77 ∷ 59 ∷ [])
+    ∷ Case.wrong (51 ∷ 59 ∷ 77 ∷ 48 ∷ [])
+    ∷ Case.wrong (51 ∷ 59 ∷ [])
+    ∷ Case.empty
+    ∷ Case.text twoRecords 1 7 [] 0 ∷ []
+
+abbrev pub chains : List Case
+chains =
+    -- "M records 1→2 (R), 1→3 (MRUP), 3→2 (MRUP); P key 9 id 2 MRUP: user 1 holds 15 on 9."
+    Case.rights (block (once 1 2 2 ∷ once 1 3 15 ∷ once 3 2 15 ∷ []) (once 9 2 15 ∷ []) [] 0) 1 9 15
+    -- "1→2 (R), 2→3 (U), P key 9 id 3 MRUP: user 1 holds 0 on 9."
+    ∷ Case.rights (block (once 1 2 2 ∷ once 2 3 4 ∷ []) (once 9 3 15 ∷ []) [] 0) 1 9 0
+    -- "1→1 alone, P key 0 id 1 R: user 1 holds 2 on every object."
+    ∷ Case.everywhere (block (once 1 1 2 ∷ []) (once 0 1 2 ∷ []) [] 0) 1 2
+    -- "P key 9 id 1 MRUP, F key 9 id 20 RU, F key 9 id 21 R: user 1 holds 6 on 9."
+    ∷ Case.rights (block [] (once 9 1 15 ∷ []) (once 9 20 6 ∷ once 9 21 2 ∷ []) 0) 1 9 6 ∷ []
+
+abbrev pub appointments : List Case
+appointments =
+    -- "Two statements each give R on key 9 to id 1; one is withdrawn: count 1, right held. Both: no record."
+    Case.accepted nothing give (reads 1)
+    ∷ Case.accepted (reads 1) give (reads 2)
+    ∷ Case.accepted (reads 2) withdraw (reads 1)
+    ∷ Case.rights (reads 1) 1 9 2
+    ∷ Case.accepted (reads 1) withdraw nothing
+    ∷ Case.rights nothing 1 9 0 ∷ []
+
+abbrev pub limits : List Case
+limits =
+    -- "Count 65,535, message R to R: accepted. Another new R: 7."
+    Case.accepted (reads 65535) (moving 2 (half 9 1 2) (half 9 1 2)) (reads 65535)
+    ∷ Case.refused (reads 65535) give 7
+    -- "Block of 36 bytes (room 1) holding one record, a message moving its only statement to another key: accepted. A second
+    -- record: 8."
+    ∷ Case.accepted (reads 1) (moving 2 (half 9 1 2) (half 10 1 2)) (block [] (once 10 1 2 ∷ []) [] 0)
+    ∷ Case.refused (reads 1) (giving 2 10 1 2) 8 ∷ []
+
+-- All of them, in 01's order.
+abbrev pub cases : List Case
+cases = masks ++ (texts ++ (chains ++ (appointments ++ limits)))

@@ -1,0 +1,90 @@
+//! Shows that the comparison can find a fault: plants one fault at a time in a copy of the plain program, which stands where
+//! the library stands, and runs the comparison on it. Every fault must be caught. Run it in `rust/`: faults.
+
+use std::fs;
+use std::path::Path;
+use std::process::{Command, Stdio};
+
+/// What the fault is, the text in plain/src/lib.rs, and what is put in its place.
+const FAULTS: &[(&str, &str, &str)] = &[
+    ("a block of 15 bytes is taken", "if b.len() < HEADER || b.len() > GREATEST {\n        return 1;\n    }\n    let at", "if b.len() + 1 < HEADER || b.len() > GREATEST {\n        return 1;\n    }\n    let at"),
+    ("a block of 40,977 bytes is taken", "b.len() > GREATEST {\n        return 1;\n    }\n    b.fill(0);", "b.len() > GREATEST + 1 {\n        return 1;\n    }\n    b.fill(0);"),
+    ("bytes after the end are not looked at", "if b[place(at[3])..].iter().any(|&x| x != 0) {", "if b[place(at[3])..].iter().any(|&x| x == 255) {"),
+    ("a record may stand twice", "last >= Some((key, id))", "last > Some((key, id))"),
+    ("small letters may stand in M and F", "capitals | smalls == 0 || (kind != 1 && smalls != 0)", "capitals | smalls == 0"),
+    ("a record may count nothing", "capitals | smalls == 0 || (kind", "(kind"),
+    ("the zero at 6 is not looked at", "(0..5).any(|k| word(b, 6 + 2 * k) != header[k])", "(1..5).any(|k| word(b, 6 + 2 * k) != header[k])"),
+    ("an update only adds", "        let number = take(b, kind, from, m[6]);", "        let number = if new { 0 } else { take(b, kind, from, m[6]) };"),
+    ("a refused message leaves the take applied", "                add(b, kind, from, m[6]);\n", ""),
+    ("a record with no counts stays", "    if left == 0 {\n        shift(b, kind, i + 1, i);\n    }", "    if left == usize::MAX {\n        shift(b, kind, i + 1, i);\n    }"),
+    ("old bytes stay after the end", "        b[end - RECORD * (from - to)..end].fill(0);", "        b[end - RECORD * (from - to)..end - 1].fill(0);"),
+    ("a letter without a count may be taken", "word(b, count_at(i, k)) == 0)", "word(b, count_at(i, k)) > 65_535)"),
+    ("a count wraps", "mask >> k & 1 == 1 && word(b, count_at(i, k)) == 65_535", "mask >> k & 1 == 1 && word(b, count_at(i, k)) == 65_534"),
+    ("the last place is not given", "if bounds(b)[3] == (b.len() - HEADER) / RECORD {", "if bounds(b)[3] + 1 >= (b.len() - HEADER) / RECORD {"),
+    ("a mask of 16 is taken for M", "kind != 1 && mask > 15", "kind != 1 && mask > 16"),
+    ("an absent half is not looked at", "(!old && m[2..7] != [0; 5])", "(!old && m[2..6] != [0; 4])"),
+    ("masks are joined by or", "let more = before[key] & net & !marks[id];", "let more = (before[key] | net) & !marks[id];"),
+    ("the last record decides", "let more = before[key] & net & !marks[id];", "let more = if before[key] != 0 { net & !marks[id] } else { 0 };"),
+    ("marks are updated within a round", "let more = before[key] & net & !marks[id];", "let more = marks[key] & net & !marks[id];"),
+    ("a chain may have 33 records", "    for _ in 0..32 {", "    for _ in 0..33 {"),
+    ("a chain may have 31 records", "    for _ in 0..32 {", "    for _ in 0..31 {"),
+    ("name 0 does not count", "    objects[0] = 15;\n", ""),
+    ("denials are not looked at", "    mask & !(mask >> 4) & 15", "    mask & 15"),
+    ("the filter is skipped", "let limit = filter(b, object as usize) & request;", "let limit = request;"),
+    ("the object's own filter is skipped", "    of(object)\n        .or_else", "    None\n        .or_else"),
+    ("the request is not applied", "let limit = filter(b, object as usize) & request;", "let limit = filter(b, object as usize);"),
+    ("65,537 is taken for 1", "if user > 1023 || object > 1023 {", "if user % 65_536 > 1023 || object > 1023 {"),
+    ("a count of 1 is written", "                if n > 1 {", "                if n > 0 {"),
+    ("a text that just fits is refused", "if length > out.len() {", "if length >= out.len() {"),
+    ("a leading zero is read", "(text[start] != b'0' || *at == start + 1)", "(text[start] != b'0' || *at <= start + 2)"),
+    ("a count of 1 is read", ".filter(|&n| n > 1)?", ".filter(|&n| n > 0)?"),
+    ("ids need not rise", "        least = id + 1;", "        least = id;"),
+    ("the old set's room is forgotten", "if bounds(b)[3] - (hi - lo) + records >", "if bounds(b)[3] + records >"),
+];
+
+fn copy(from: &Path, to: &Path) -> std::io::Result<()> {
+    fs::create_dir_all(to)?;
+    for entry in fs::read_dir(from)? {
+        let entry = entry?;
+        let target = to.join(entry.file_name());
+        if entry.file_type()?.is_dir() {
+            copy(&entry.path(), &target)?;
+        } else {
+            fs::copy(entry.path(), target)?;
+        }
+    }
+    Ok(())
+}
+
+fn main() -> std::io::Result<()> {
+    let folder = std::env::temp_dir().join(format!("faults-{}", std::process::id()));
+    for part in ["second", "plain"] {
+        copy(Path::new(part), &folder.join(part))?;
+    }
+    fs::write(folder.join("Cargo.toml"), "[workspace]\nmembers = [\"second\", \"plain\"]\nresolver = \"2\"\n")?;
+    let source = folder.join("plain/src/lib.rs");
+    let whole = fs::read_to_string(&source)?;
+    let caught_by = |text: &str| -> std::io::Result<bool> {
+        fs::write(&source, text)?;
+        let run = Command::new("cargo")
+            .args(["test", "--offline", "--release", "-p", "plain", "--test", "agree"])
+            .current_dir(&folder)
+            .stdout(Stdio::piped())
+            .stderr(Stdio::piped())
+            .output()?;
+        let said = String::from_utf8_lossy(&run.stdout).into_owned() + &String::from_utf8_lossy(&run.stderr);
+        assert!(said.contains("test result:"), "the comparison did not run:\n{said}");
+        Ok(!run.status.success())
+    };
+    assert!(!caught_by(&whole)?, "the program without a fault disagrees");
+    let mut missed = 0;
+    for (what, old, new) in FAULTS {
+        assert_eq!(whole.matches(old).count(), 1, "{what}: the text to change stands there once");
+        let caught = caught_by(&whole.replace(old, new))?;
+        println!("{} {what}", if caught { "caught" } else { "MISSED" });
+        missed += usize::from(!caught);
+    }
+    fs::remove_dir_all(&folder)?;
+    println!("{} faults, {} caught", FAULTS.len(), FAULTS.len() - missed);
+    std::process::exit(i32::from(missed > 0));
+}
