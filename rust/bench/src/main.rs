@@ -56,6 +56,9 @@ fn block(memberships: usize, grants: usize, filters: usize, spare: usize) -> Vec
     b
 }
 
+/// A result that nobody wants.
+fn discard<T>(_: T) {}
+
 fn seconds(times: usize, mut call: impl FnMut(usize)) -> f64 {
     let start = Instant::now();
     (0..times).for_each(|n| call(n));
@@ -93,8 +96,8 @@ fn measure(name: &str, b: &[u8]) {
     let ask = |user: u64, object: u64| {
         both(
             60,
-            |n| drop(black_box(unsafe { anaqsiro_rights(b.as_ptr(), len, user.max(people[n % 64]), object + n as u64 % 100, 15) })),
-            |n| drop(black_box(plain::rights(b, user.max(people[n % 64]), object + n as u64 % 100, 15))),
+            |n| discard(black_box(unsafe { anaqsiro_rights(b.as_ptr(), len, user.max(people[n % 64]), object + n as u64 % 100, 15) })),
+            |n| discard(black_box(plain::rights(b, user.max(people[n % 64]), object + n as u64 % 100, 15))),
         )
     };
     row("the test of the block (a question refused with 4)", ask(5000, 1));
@@ -103,8 +106,8 @@ fn measure(name: &str, b: &[u8]) {
         "the short question",
         both(
             60,
-            |n| drop(black_box(unsafe { anaqsiro_may(b.as_ptr(), len, people[n % 64], 1 + n as u64 % 100, 2) })),
-            |n| drop(black_box(plain::may(b, people[n % 64], 1 + n as u64 % 100, 2))),
+            |n| discard(black_box(unsafe { anaqsiro_may(b.as_ptr(), len, people[n % 64], 1 + n as u64 % 100, 2) })),
+            |n| discard(black_box(plain::may(b, people[n % 64], 1 + n as u64 % 100, 2))),
         ),
     );
     let (mut one, mut two) = (b.to_vec(), b.to_vec());
@@ -114,8 +117,8 @@ fn measure(name: &str, b: &[u8]) {
         "a message that changes a count",
         both(
             60,
-            |n| drop(black_box(unsafe { anaqsiro_message(one.as_mut_ptr(), len, bump[n % 2].as_ptr(), 12) })),
-            |n| drop(black_box(plain::message(&mut two, &bump[n % 2]))),
+            |n| discard(black_box(unsafe { anaqsiro_message(one.as_mut_ptr(), len, bump[n % 2].as_ptr(), 12) })),
+            |n| discard(black_box(plain::message(&mut two, &bump[n % 2]))),
         ),
     );
     let insert = [message(1, 2, 0, 1, 2), message(1, 1, 0, 1, 2)];
@@ -123,8 +126,8 @@ fn measure(name: &str, b: &[u8]) {
         "a message that inserts, or removes, in front of all",
         both(
             60,
-            |n| drop(black_box(unsafe { anaqsiro_message(one.as_mut_ptr(), len, insert[n % 2].as_ptr(), 12) })),
-            |n| drop(black_box(plain::message(&mut two, &insert[n % 2]))),
+            |n| discard(black_box(unsafe { anaqsiro_message(one.as_mut_ptr(), len, insert[n % 2].as_ptr(), 12) })),
+            |n| discard(black_box(plain::message(&mut two, &insert[n % 2]))),
         ),
     );
     assert!(one == two && one == b, "both programs leave the same block");
@@ -133,8 +136,8 @@ fn measure(name: &str, b: &[u8]) {
         "writing the sets of objects",
         both(
             60,
-            |n| drop(black_box(unsafe { anaqsiro_write(b.as_ptr(), len, 2, n as u64, out.as_mut_ptr(), 60_000) })),
-            |n| drop(black_box(plain::write(b, 2, n as u64, &mut text))),
+            |n| discard(black_box(unsafe { anaqsiro_write(b.as_ptr(), len, 2, n as u64, out.as_mut_ptr(), 60_000) })),
+            |n| discard(black_box(plain::write(b, 2, n as u64, &mut text))),
         ),
     );
     let texts = [&b"3;MR;12;MRU2"[..], b""];
@@ -142,8 +145,8 @@ fn measure(name: &str, b: &[u8]) {
         "reading a set of two records, and taking it out",
         both(
             60,
-            |n| drop(black_box(unsafe { anaqsiro_read(one.as_mut_ptr(), len, 2, 0, texts[n % 2].as_ptr(), texts[n % 2].len()) })),
-            |n| drop(black_box(plain::read(&mut two, 2, 0, texts[n % 2]))),
+            |n| discard(black_box(unsafe { anaqsiro_read(one.as_mut_ptr(), len, 2, 0, texts[n % 2].as_ptr(), texts[n % 2].len()) })),
+            |n| discard(black_box(plain::read(&mut two, 2, 0, texts[n % 2]))),
         ),
     );
     assert!(one == two && one == b, "both programs leave the same block");
@@ -170,8 +173,8 @@ fn large_set() {
         "reading it in, and taking it out",
         both(
             20,
-            |n| drop(black_box(unsafe { anaqsiro_read(one.as_mut_ptr(), 40_976, 2, 5, texts[n % 2].as_ptr(), texts[n % 2].len()) })),
-            |n| drop(black_box(plain::read(&mut two, 2, 5, texts[n % 2]))),
+            |n| discard(black_box(unsafe { anaqsiro_read(one.as_mut_ptr(), 40_976, 2, 5, texts[n % 2].as_ptr(), texts[n % 2].len()) })),
+            |n| discard(black_box(plain::read(&mut two, 2, 5, texts[n % 2]))),
         ),
     );
     assert!(one == two, "both programs leave the same block");
@@ -181,8 +184,8 @@ fn large_set() {
         "writing it",
         both(
             20,
-            |_| drop(black_box(unsafe { anaqsiro_write(one.as_ptr(), 40_976, 2, 5, out.as_mut_ptr(), 60_000) })),
-            |_| drop(black_box(plain::write(&one, 2, 5, &mut room))),
+            |_| discard(black_box(unsafe { anaqsiro_write(one.as_ptr(), 40_976, 2, 5, out.as_mut_ptr(), 60_000) })),
+            |_| discard(black_box(plain::write(&one, 2, 5, &mut room))),
         ),
     );
     assert!(out == room && out.starts_with(&text), "both programs write the same text");
@@ -196,8 +199,8 @@ fn growth() {
         let b = block(memberships, 200, 20, 10);
         let (ours, theirs) = both(
             60,
-            |n| drop(black_box(unsafe { anaqsiro_rights(b.as_ptr(), b.len(), 200 + 9 * n as u64, 1 + n as u64, 15) })),
-            |n| drop(black_box(plain::rights(&b, 200 + 9 * n as u64, 1 + n as u64, 15))),
+            |n| discard(black_box(unsafe { anaqsiro_rights(b.as_ptr(), b.len(), 200 + 9 * n as u64, 1 + n as u64, 15) })),
+            |n| discard(black_box(plain::rights(&b, 200 + 9 * n as u64, 1 + n as u64, 15))),
         );
         let (first, second) = *base.get_or_insert((ours, theirs));
         println!("| {memberships} | {:.1} | {:.1} |", ours / first, theirs / second);
