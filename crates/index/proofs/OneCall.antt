@@ -13,7 +13,7 @@ use Rattle.index.specs.declared.Wrote.{Wrote}
 use Rattle.index.specs.declared.Wrote.the-variants as wrote
 use Rattle.index.specs.declared.Took.{Took}
 use Rattle.index.specs.declared.Took.the-variants as took
-use Rattle.index.specs.Calls.{Wrotes, Tooks, makeNeeds, writeNeeds, readNeeds, Made, Makes, Written, WritesSet, Read, ReadsSet}
+use Rattle.index.specs.Calls.{WriteAnswers, ReadAnswers, makeNeeds, writeNeeds, readNeeds, Made, Makes, Written, WritesSet, Read, ReadsSet}
 use mathlib.Core.Logic.{⊎-elim}
 use native.Mathlib.Decide.{ℕ-discrete}
 use Rattle.index.proofs.ThreeKinds.{kind?}
@@ -80,8 +80,8 @@ module _ (P : ℕ × ℕ × List ℕ → Type 0) (one : (o o′ : ℕ × ℕ × 
   not-both p q = omega (arith, q .0, ap (λ (o : ℕ × ℕ × List ℕ). o .0) (one _ _ p (q .1)))
 
 module _ (b : List ℕ) (kind x : ℕ) (s : List ℕ) where
-  pub one-wrote : (r r′ : Wrote) (o o′ : List ℕ) → Wrotes b kind x s r o → Wrotes b kind x s r′ o′ → (r ≡ r′) × (o ≡ o′)
-  unfolding Wrotes
+  pub one-wrote : (r r′ : Wrote) (o o′ : List ℕ) → WriteAnswers b kind x s r o → WriteAnswers b kind x s r′ o′ → (r ≡ r′) × (o ≡ o′)
+  unfolding WriteAnswers
   one-wrote (wrote.Text n) (wrote.Text m) o o′ p q =
       let e = one-value (WritesSet b kind x s) (one-write b kind x s) p q in (ap wrote.Text (e .0), e .1)
   one-wrote (wrote.Text n) (wrote.Refused m) o o′ p q = absurd (not-both (WritesSet b kind x s) (one-write b kind x s) p q)
@@ -89,8 +89,8 @@ module _ (b : List ℕ) (kind x : ℕ) (s : List ℕ) where
   one-wrote (wrote.Refused n) (wrote.Refused m) o o′ p q =
       let e = one-number (WritesSet b kind x s) (one-write b kind x s) (p .1) (q .1) in (ap wrote.Refused (e .0), e .1)
 
-  pub one-took : (r r′ : Took) (o o′ : List ℕ) → Tooks b kind x s r o → Tooks b kind x s r′ o′ → (r ≡ r′) × (o ≡ o′)
-  unfolding Tooks
+  pub one-took : (r r′ : Took) (o o′ : List ℕ) → ReadAnswers b kind x s r o → ReadAnswers b kind x s r′ o′ → (r ≡ r′) × (o ≡ o′)
+  unfolding ReadAnswers
   one-took (took.Set n) (took.Set m) o o′ p q =
       let e = one-value (ReadsSet b kind x s) (one-read b kind x s) p q in (ap took.Set (e .0), e .1)
   one-took (took.Set n) (took.Refused m) o o′ p q = absurd (not-both (ReadsSet b kind x s) (one-read b kind x s) p q)

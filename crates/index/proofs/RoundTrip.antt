@@ -8,11 +8,11 @@ use native.Mathlib.Omega.{arith}
 use lib.ListN.{length, take, drop}
 use lib.Seq.{take-at}
 use Rattle.index.specs.declared.Kind.{Kind}
-use Rattle.index.specs.Block.{IsName, Sized, Good, records, room}
+use Rattle.index.specs.Block.{IsName, Sized, Good}
 use Rattle.index.specs.Message.{kindOf, IsKind}
 use Rattle.index.specs.Text.{Entry, textOf, setOf, IsSet, Writes, Replaced}
 use Rattle.index.specs.Numbers.{First}
-use Rattle.index.specs.Calls.{blockNeeds, setNeeds, writeNeeds, readNeeds, Written, WritesSet, Read, ReadsSet}
+use Rattle.index.specs.Calls.{RoomFor, blockNeeds, setNeeds, writeNeeds, readNeeds, Written, WritesSet, Read, ReadsSet}
 use Rattle.index.proofs.Firsts.{first-passed, first-past}
 use Rattle.index.proofs.SetCounts.{set-counts}
 use Rattle.index.proofs.OneSet.{one-set}
@@ -44,10 +44,6 @@ replaced-set : {kind : Kind} {x : ℕ} {es : List Entry} {b b′ : List ℕ} →
 replaced-set {kind} {x} {es} {b} {b′} s p =
     one-set (is-set (p .good) kind x) s (λ y k l. set-counts b′ kind x y k ∙ p .set y k l)
 
--- There is room for the set es in the place of the block's own.
-abbrev pub Room : List ℕ → Kind → ℕ → List Entry → Type 0
-Room b kind x es = records b + length es ≤ room b + length (setOf b kind x)
-
 module _
     (b : List ℕ)
     (kind x n : ℕ)
@@ -73,7 +69,7 @@ module _
   abbrev Rest : List (ℕ × Type 0)
   Rest =
       (9, (es : List Entry) × Writes (kindOf kind) es (take n out′))
-      ∷ (8, (es : List Entry) → Writes (kindOf kind) es (take n out′) → Room c (kindOf kind) z es) ∷ []
+      ∷ (8, (es : List Entry) → Writes (kindOf kind) es (take n out′) → RoomFor c (kindOf kind) z es) ∷ []
 
   left : First (λ n. (n, 0, c)) Rest (Read c kind z (take n out′)) o
   unfolding ReadsSet readNeeds setNeeds blockNeeds
@@ -83,9 +79,9 @@ module _
 
   abbrev pub Back : Type 0
   Back =
-      (Room c (kindOf kind) z (setOf b (kindOf kind) x)
+      (RoomFor c (kindOf kind) z (setOf b (kindOf kind) x)
       → (o .0 ≡ 0) × (o .1 ≡ length (setOf b (kindOf kind) x)) × (setOf (o .2) (kindOf kind) z ≡ setOf b (kindOf kind) x))
-      × ((Room c (kindOf kind) z (setOf b (kindOf kind) x) → ⊥) → o ≡ (8, 0, c))
+      × ((RoomFor c (kindOf kind) z (setOf b (kindOf kind) x) → ⊥) → o ≡ (8, 0, c))
 
   pub round-trip : Back
   unfolding Writes

@@ -14,7 +14,7 @@ use Rattle.index.specs.Numbers.{Answers}
 use Rattle.index.specs.Block.{IsName, Sized, Good, records, room}
 use Rattle.index.specs.Message.{IsKind, kindOf}
 use Rattle.index.specs.Text.{Entry, textOf, setOf, Writes, Replaced}
-use Rattle.index.specs.Calls.{blockNeeds, setNeeds, writeNeeds, Written, WritesSet, Wrotes, readNeeds, Read, ReadsSet, Tooks}
+use Rattle.index.specs.Calls.{blockNeeds, setNeeds, writeNeeds, Written, WritesSet, WriteAnswers, readNeeds, Read, ReadsSet, ReadAnswers}
 use Rattle.index.specs.Pieces.{Scanned}
 use Rattle.index.proofs.TextOnce.{scanned-length}
 use Rattle.index.proofs.Firsts.{All, all-hold, refused-first, passed-first}
@@ -43,21 +43,21 @@ held b kind x h = record { sized = h .0; good = h .1 .0; kind-right = h .1 .1 .0
 -- ---- write
 
 module _ (b : List ℕ) (kind x : ℕ) (out : List ℕ) where
-  pub wrote-refused : (r : ℕ) → 0 < r → Answers (setNeeds b kind x) r → Wrotes b kind x out (wrote.Refused r) out
-  unfolding Wrotes WritesSet writeNeeds
+  pub wrote-refused : (r : ℕ) → 0 < r → Answers (setNeeds b kind x) r → WriteAnswers b kind x out (wrote.Refused r) out
+  unfolding WriteAnswers WritesSet writeNeeds
   wrote-refused r h a = (h, refused-first (λ n. (n, 0, out)) (setNeeds b kind x) _ (Written b kind x out) r h a)
 
   module _ (h : All (setNeeds b kind x)) (t : List ℕ) (e : textOf (setOf b (kindOf kind) x) ≡ t) where
-    pub wrote-long : length out < length t → Wrotes b kind x out (wrote.Refused 10) out
-    unfolding Wrotes WritesSet writeNeeds
+    pub wrote-long : length out < length t → WriteAnswers b kind x out (wrote.Refused 10) out
+    unfolding WriteAnswers WritesSet writeNeeds
     wrote-long l = (
       omega arith,
       passed-first (λ n. (n, 0, out)) (setNeeds b kind x) _ (Written b kind x out) (10, 0, out) h
           (inl ((λ k. omega (arith, ap length e)), refl)),
     )
 
-    pub wrote-text : {n : ℕ} {out′ : List ℕ} → n ≡ length t → n ≤ length out → out′ ≡ sets out 0 t → Wrotes b kind x out (wrote.Text n) out′
-    unfolding Wrotes WritesSet writeNeeds
+    pub wrote-text : {n : ℕ} {out′ : List ℕ} → n ≡ length t → n ≤ length out → out′ ≡ sets out 0 t → WriteAnswers b kind x out (wrote.Text n) out′
+    unfolding WriteAnswers WritesSet writeNeeds
     wrote-text {n} {out′} p l q =
         let z : 0 + length t ≡ length t = omega arith in
         let u : out′ ≡ t ++ drop (length t) out = q ∙ sets-eq t out 0 (omega arith) ∙ ap (λ (m : ℕ). t ++ drop m out) z in
@@ -70,8 +70,8 @@ module _ (b : List ℕ) (kind x : ℕ) (out : List ℕ) where
 -- ---- read
 
 module _ (b : List ℕ) (kind x : ℕ) (text : List ℕ) where
-  pub took-refused : (r : ℕ) → 0 < r → Answers (setNeeds b kind x) r → Tooks b kind x text (took.Refused r) b
-  unfolding Tooks ReadsSet readNeeds
+  pub took-refused : (r : ℕ) → 0 < r → Answers (setNeeds b kind x) r → ReadAnswers b kind x text (took.Refused r) b
+  unfolding ReadAnswers ReadsSet readNeeds
   took-refused r h a = (h, refused-first (λ n. (n, 0, b)) (setNeeds b kind x) _ (Read b kind x text) r h a)
 
   module _ (h : All (setNeeds b kind x)) (K : Kind) (q : K ≡ kindOf kind) where
@@ -81,8 +81,8 @@ module _ (b : List ℕ) (kind x : ℕ) (text : List ℕ) where
     there : (es : List Entry) → Writes K es text → Writes (kindOf kind) es text
     there es w = subst (λ (L : Kind). Writes L es text) q w
 
-    pub took-wrong : ((es : List Entry) → Writes K es text → ⊥) → Tooks b kind x text (took.Refused 9) b
-    unfolding Tooks ReadsSet readNeeds
+    pub took-wrong : ((es : List Entry) → Writes K es text → ⊥) → ReadAnswers b kind x text (took.Refused 9) b
+    unfolding ReadAnswers ReadsSet readNeeds
     took-wrong none = (
       omega arith,
       passed-first (λ n. (n, 0, b)) (setNeeds b kind x) _ (Read b kind x text) (9, 0, b) h
@@ -93,8 +93,8 @@ module _ (b : List ℕ) (kind x : ℕ) (text : List ℕ) where
       same : length (setOf b (kindOf kind) x) ≡ old
       same = subst (λ (L : Kind). length (setOf b L x) ≡ old) q e
 
-      pub took-full : room b + old < records b + n → Tooks b kind x text (took.Refused 8) b
-      unfolding Tooks ReadsSet readNeeds
+      pub took-full : room b + old < records b + n → ReadAnswers b kind x text (took.Refused 8) b
+      unfolding ReadAnswers ReadsSet readNeeds
       took-full l = (
         omega arith,
         passed-first (λ n. (n, 0, b)) (setNeeds b kind x) _ (Read b kind x text) (8, 0, b) h
@@ -102,8 +102,8 @@ module _ (b : List ℕ) (kind x : ℕ) (text : List ℕ) where
       )
 
       pub took-set : {b′ : List ℕ} → records b + n ≤ room b + old
-          → ((es : List Entry) → Writes K es text → length es ≡ n → Replaced K x es b b′) → Tooks b kind x text (took.Set n) b′
-      unfolding Tooks ReadsSet readNeeds
+          → ((es : List Entry) → Writes K es text → length es ≡ n → Replaced K x es b b′) → ReadAnswers b kind x text (took.Set n) b′
+      unfolding ReadAnswers ReadsSet readNeeds
       took-set {b′} l r =
           passed-first (λ n. (n, 0, b)) (setNeeds b kind x) _ (Read b kind x text) (0, n, b′) h
           (inr (

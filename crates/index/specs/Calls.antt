@@ -3,6 +3,7 @@ use Prim.Native.Nat.{ℕ, _+_, _<_, _≤_}
 use mathlib.Core.Path.{_≡_}
 use mathlib.Core.List.{List, [], _∷_, _++_}
 use lib.ListN.{length, drop}
+use Rattle.index.specs.declared.Kind.{Kind}
 use Rattle.index.specs.declared.Wrote.{Wrote}
 use Rattle.index.specs.declared.Wrote.the-variants as wrote
 use Rattle.index.specs.declared.Took.{Took}
@@ -60,25 +61,25 @@ Read b kind x text o =
     (es : List Entry) × Writes (kindOf kind) es text × (o .0 ≡ 0) × (o .1 ≡ length es)
     × Replaced (kindOf kind) x es b (o .2)
 
+-- Without the block's own set of this kind and key, the records of es fit.
+abbrev pub RoomFor : List ℕ → Kind → ℕ → List Entry → Type 0
+RoomFor b kind x es = records b + length es ≤ room b + length (setOf b kind x)
+
 unfoldable pub readNeeds : List ℕ → ℕ → ℕ → List ℕ → List (ℕ × Type 0)
 readNeeds b kind x text =
     setNeeds b kind x
     ++ ((9, (es : List Entry) × Writes (kindOf kind) es text)
-    ∷ (
-      8,
-      (es : List Entry) → Writes (kindOf kind) es text
-          → records b + length es ≤ room b + length (setOf b (kindOf kind) x),
-    ) ∷ [])
+    ∷ (8, (es : List Entry) → Writes (kindOf kind) es text → RoomFor b (kindOf kind) x es) ∷ [])
 
 unfoldable pub ReadsSet : List ℕ → ℕ → ℕ → List ℕ → (ℕ × ℕ × List ℕ) → Type 0
 ReadsSet b kind x text o = First (λ n. (n, 0, b)) (readNeeds b kind x text) (Read b kind x text) o
 
 -- ---- what each case of an answer stands for: 01's number, and its value
 
-unfoldable pub Wrotes : List ℕ → ℕ → ℕ → List ℕ → Wrote → List ℕ → Type 0
-Wrotes b kind x out (wrote.Text n) out′ = WritesSet b kind x out (0, n, out′)
-Wrotes b kind x out (wrote.Refused n) out′ = (0 < n) × WritesSet b kind x out (n, 0, out′)
+unfoldable pub WriteAnswers : List ℕ → ℕ → ℕ → List ℕ → Wrote → List ℕ → Type 0
+WriteAnswers b kind x out (wrote.Text n) out′ = WritesSet b kind x out (0, n, out′)
+WriteAnswers b kind x out (wrote.Refused n) out′ = (0 < n) × WritesSet b kind x out (n, 0, out′)
 
-unfoldable pub Tooks : List ℕ → ℕ → ℕ → List ℕ → Took → List ℕ → Type 0
-Tooks b kind x text (took.Set n) b′ = ReadsSet b kind x text (0, n, b′)
-Tooks b kind x text (took.Refused n) b′ = (0 < n) × ReadsSet b kind x text (n, 0, b′)
+unfoldable pub ReadAnswers : List ℕ → ℕ → ℕ → List ℕ → Took → List ℕ → Type 0
+ReadAnswers b kind x text (took.Set n) b′ = ReadsSet b kind x text (0, n, b′)
+ReadAnswers b kind x text (took.Refused n) b′ = (0 < n) × ReadsSet b kind x text (n, 0, b′)

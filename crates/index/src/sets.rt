@@ -22,7 +22,7 @@ ghost use lib.Dec.{leb};
 ghost use lib.ListN.{length};
 ghost use Rattle.index.specs.Numbers.{Answers};
 ghost use Rattle.index.specs.Block.{headerLength, records, room};
-ghost use Rattle.index.specs.Calls.{setNeeds, Wrotes, Tooks};
+ghost use Rattle.index.specs.Calls.{setNeeds, WriteAnswers, ReadAnswers};
 
 // The tests that both calls run first.
 fn set_refused(block: &[u8], kind: u64, key: u64) -> u8
@@ -46,7 +46,7 @@ fn set_refused(block: &[u8], kind: u64, key: u64) -> u8
 
 // Writes the set of this kind and key at the front of `out`.
 pub fn write_set(block: &[u8], kind: u64, key: u64, out: &mut [u8]) -> Wrote
-    ensures { λ r. ⌜ Wrotes (now (block .entry)) kind key (now (out .entry)) r (now (out .exit)) ⌝ }
+    ensures { λ r. ⌜ WriteAnswers (now (block .entry)) kind key (now (out .entry)) r (now (out .exit)) ⌝ }
 {
     let number = set_refused(block, kind, key);
     if number > 0 {
@@ -77,7 +77,7 @@ fn has_room(block: &[u8], m: usize, n: usize) -> bool
 
 // Replaces the set of this kind and key by the one that the text is of.
 pub fn read_set(block: &mut [u8], kind: u64, key: u64, text: &[u8]) -> Took
-    ensures { λ r. ⌜ Tooks (now (block .entry)) kind key (now (text .entry)) r (now (block .exit)) ⌝ }
+    ensures { λ r. ⌜ ReadAnswers (now (block .entry)) kind key (now (text .entry)) r (now (block .exit)) ⌝ }
 {
     let number = set_refused(block, kind, key);
     if number > 0 {

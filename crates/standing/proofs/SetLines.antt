@@ -9,7 +9,7 @@ use Rattle.index.specs.declared.Wrote.the-variants as wrote
 use Rattle.index.specs.Block.{IsName}
 use Rattle.index.specs.Message.{IsKind, kindOf}
 use Rattle.index.specs.Text.{textOf, setOf}
-use Rattle.index.specs.Calls.{Wrotes, WritesSet, Written}
+use Rattle.index.specs.Calls.{WriteAnswers, WritesSet, Written}
 use Rattle.index.proofs.TextBound.{set-text-bound}
 use Rattle.index.proofs.WriteAccepted.{write-accepted}
 use Rattle.standing.specs.Printed.{setLine}
@@ -28,20 +28,20 @@ module _
   is-written : (o : ℕ × ℕ × List ℕ) → WritesSet b kind x text o → Written b kind x text o
   is-written o = write-accepted b kind x text o (p .0 .sized) (p .0 .good) (p .1 .0) (p .1 .1) bound
 
-  pub never-refused : (n : ℕ) → Wrotes b kind x text (wrote.Refused n) text′ → ⊥
-  unfolding Wrotes
+  pub never-refused : (n : ℕ) → WriteAnswers b kind x text (wrote.Refused n) text′ → ⊥
+  unfolding WriteAnswers
   never-refused n w = omega (arith, w .0, ap (λ (o : ℕ × ℕ × List ℕ). o .0) (is-written _ (w .1)))
 
-  module _ (n : ℕ) (w : Wrotes b kind x text (wrote.Text n) text′) where
+  module _ (n : ℕ) (w : WriteAnswers b kind x text (wrote.Text n) text′) where
     pub long : n ≡ length (textOf (setOf b (kindOf kind) x))
-    unfolding Wrotes
+    unfolding WriteAnswers
     long = ap (λ (o : ℕ × ℕ × List ℕ). o .1) (is-written _ w)
 
     pub within : n ≤ length text
     within = omega (arith, long, bound)
 
     pub front : take n text′ ≡ textOf (setOf b (kindOf kind) x)
-    unfolding Wrotes
+    unfolding WriteAnswers
     front =
         let u = textOf (setOf b (kindOf kind) x) in
         ap (take n) (ap (λ (o : ℕ × ℕ × List ℕ). o .2) (is-written _ w)) ∙ take-at u (drop (length u) text) n (sym long)

@@ -5,7 +5,7 @@ use borrow.Author.Needs.{needs}
 use lib.ListN.{length, take}
 use lib.Seq.{length-take-le}
 use Rattle.index.specs.declared.Wrote.{Wrote}
-use Rattle.index.specs.Calls.{Wrotes}
+use Rattle.index.specs.Calls.{WriteAnswers}
 use Rattle.standing.proofs.SetLines.{never-refused, within, empty-line, some-line}
 use Rattle.standing.proofs.put_set.Statement.{statement}
 use Rattle.standing.proofs.put_set.Tie as tie
@@ -16,14 +16,14 @@ returns c =
     let w = c .before .before .before .before .write-set in
     absurd
     (never-refused (a .block .now) (a .kind) (a .key) (a .text .now) (w .last .1 .1 .1 .0) (c .before .before .before .before .before .before .before .before .before .pre .0) (c .before .before .before .before .before .before .before .before .before .pre .1 .0) _
-    (subst (λ (r : Wrote). Wrotes (a .block .now) (a .kind) (a .key) (a .text .now) r (w .last .1 .1 .1 .0)) (c .enum-told .given .1) (w .ensures)))
+    (subst (λ (r : Wrote). WriteAnswers (a .block .now) (a .kind) (a .key) (a .text .now) r (w .last .1 .1 .1 .0)) (c .enum-told .given .1) (w .ensures)))
 
 returns-2 : tie.Need-returns-2
 returns-2 c =
     let a = c .before .before .before .before .before .before .before .before .before .before .before .args in
     let w = c .before .before .before .before .before .before .write-set in
     empty-line (a .block .now) (a .kind) (a .key) (a .text .now) (w .last .1 .1 .1 .0) (c .before .before .before .before .before .before .before .before .before .before .before .pre .0) (c .before .before .before .before .before .before .before .before .before .before .before .pre .1 .0) _
-    (subst (λ (r : Wrote). Wrotes (a .block .now) (a .kind) (a .key) (a .text .now) r (w .last .1 .1 .1 .0)) (c .before .before .n .given .1) (w .ensures))
+    (subst (λ (r : Wrote). WriteAnswers (a .block .now) (a .kind) (a .key) (a .text .now) r (w .last .1 .1 .1 .0)) (c .before .before .n .given .1) (w .ensures))
     _ (c .if1 .taken)
 
 slice-reshare-prefix-put-line : tie.Need-slice-reshare-prefix-put-line
@@ -34,7 +34,7 @@ slice-reshare-prefix-put-line c =
       arith,
       w .kept .1 .1 .1 .0,
       within (a .block .now) (a .kind) (a .key) (a .text .now) (w .last .1 .1 .1 .0) (c .before .before .before .before .before .before .before .before .before .before .before .before .pre .0) (c .before .before .before .before .before .before .before .before .before .before .before .before .pre .1 .0) (c .before .before .before .n .given .0 .0)
-          (subst (λ (r : Wrote). Wrotes (a .block .now) (a .kind) (a .key) (a .text .now) r (w .last .1 .1 .1 .0)) (c .before .before .before .n .given .1) (w .ensures)),
+          (subst (λ (r : Wrote). WriteAnswers (a .block .now) (a .kind) (a .key) (a .text .now) r (w .last .1 .1 .1 .0)) (c .before .before .before .n .given .1) (w .ensures)),
     )
 
 slice-aggregate-put-line : tie.Need-slice-aggregate-put-line
@@ -57,7 +57,7 @@ returns-3 c =
     let a = c .before .before .before .before .before .before .before .before .before .before .before .before .before .before .before .before .args in
     let w = c .before .before .before .before .before .before .before .before .before .before .before .write-set in
     some-line (a .block .now) (a .kind) (a .key) (a .text .now) (w .last .1 .1 .1 .0) (c .before .before .before .before .before .before .before .before .before .before .before .before .before .before .before .before .pre .0) (c .before .before .before .before .before .before .before .before .before .before .before .before .before .before .before .before .pre .1 .0) _
-    (subst (λ (r : Wrote). Wrotes (a .block .now) (a .kind) (a .key) (a .text .now) r (w .last .1 .1 .1 .0)) (c .before .before .before .before .before .before .before .n .given .1) (w .ensures))
+    (subst (λ (r : Wrote). WriteAnswers (a .block .now) (a .kind) (a .key) (a .text .now) r (w .last .1 .1 .1 .0)) (c .before .before .before .before .before .before .before .n .given .1) (w .ensures))
     _ _ (c .before .before .before .before .before .if1 .left) (c .before .before .put-line .ensures)
 
 pub put-set-spec : {M : Type 1} → statement M
