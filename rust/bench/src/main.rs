@@ -207,7 +207,33 @@ fn growth() {
     }
 }
 
+/// How many rounds of marks a side takes until one changes nothing, of the 32 that the rules allow: all names of the mill.
+fn rounds() {
+    let b = block(1258, 200, 40, 20);
+    let word = |at: usize| usize::from(u16::from_le_bytes([b[at], b[at + 1]]));
+    let taken: Vec<usize> = (1..1000)
+        .map(|name| {
+            let mut marks = [0u8; 1024];
+            marks[name] = 15;
+            for round in 1..=32 {
+                let before = marks;
+                for at in (0..word(0)).map(|i| 16 + 20 * i) {
+                    let net = (0..4).fold(0, |net, k| net | u8::from(word(at + 4 + 2 * k) > 0) << k);
+                    marks[word(at + 2)] |= before[word(at)] & net;
+                }
+                if marks == before {
+                    return round;
+                }
+            }
+            32
+        })
+        .collect();
+    let (sum, most) = (taken.iter().sum::<usize>() as f64, taken.iter().max().unwrap());
+    println!("\nRounds until one changes nothing, in the mill, of 32: {:.1} on average, {most} at most", sum / taken.len() as f64);
+}
+
 fn main() {
+    rounds();
     measure("Small: 10 memberships, 5 grants", &block(10, 5, 2, 4));
     measure("The mill: 1,258 memberships, 200 grants, 40 filters", &block(1258, 200, 40, 20));
     measure("Full: 1,500 memberships, 500 grants, 45 filters, room for 3 more", &block(1500, 500, 45, 3));
