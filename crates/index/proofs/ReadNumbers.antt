@@ -1,6 +1,6 @@
 -- Reading a number finds exactly what is written in decimal.
 use Prim.Native.Nat.{ℕ, suc, _+_, _-_, _*_, _<_, _≤_}
-use mathlib.Core.Path.{_≡_, refl, sym, ap, _∙_, subst₂}
+use mathlib.Core.Path.{_≡_, refl, sym, ap, subst, _∙_, subst₂}
 use mathlib.Core.Bool.{Bool, true, false, cond}
 use mathlib.Core.List.{List, [], _∷_, _++_, append-assoc}
 use mathlib.Core.Logic.{⊎-elim}
@@ -148,3 +148,28 @@ module _ (least most : ℕ) (j : most < 100000) where
       let s = digits-sound (10 * 0 + (b - 48)) t (x .1) (omega arith) (begins-most least most (10 * 0 + (b - 48)) (x .0)) in
       (ap (λ (l : List ℕ). l ++ t) (sym (first-digit b (g .0))) ∙ s .0, s .1, s .2))
       (cond-inv (eqb b 48) _ _ e)
+
+-- ---- a number that is high enough
+
+digits-over : (least most n : ℕ) (t : List ℕ) {v : ℕ} {r : List ℕ} → readDigits least most n t ≡ got v r → digit (first r) ≡ false
+unfolding readDigits digit
+digits-over least most n [] {v} {r} e =
+    let g = guard-inv (leb least n) _ _ e in
+    let f = g .1 in
+    let q : [] ≡ r = cc in
+    subst (λ (x : List ℕ). digit (first x) ≡ false) q refl
+digits-over least most n (b ∷ t) {v} {r} e =
+    ⊎-elim
+    (λ w. digits-over least most (10 * n + (b - 48)) t (guard-inv (begins least most (10 * n + (b - 48))) _ _ (w .1) .1))
+    (λ w.
+    let f = guard-inv (leb least n) _ _ (w .1) .1 in
+    let q : b ∷ t ≡ r = cc in
+    subst (λ (x : List ℕ). digit (first x) ≡ false) q (w .0))
+    (cond-inv (digit b) _ _ e)
+
+-- A number up to `most` that is `least` or more is what a number from `least` on is read as.
+pub high-enough : (least most : ℕ) → most < 100000 → (t : List ℕ) {v : ℕ} {r : List ℕ} → readNumber 0 most t ≡ readDigits 0 most 0 t
+    → readDigits 0 most 0 t ≡ got v r → least ≤ v → readNumber least most t ≡ got v r
+high-enough least most j t {v} {r} same e l =
+    let s = number-sound 0 most j t (same ∙ e) in
+    ap (readNumber least most) (s .0) ∙ number-complete least most v r l (s .1) (omega (arith, s .1)) (digits-over 0 most 0 t e)

@@ -153,9 +153,9 @@ fn refused(b: &[u8], m: &[u8]) -> u8
 pub fn message(block: &mut [u8], message: &[u8]) -> u8
     ensures { λ r. ⌜ Message (now (block .entry)) (now (message .entry)) (r, now (block .exit)) ⌝ }
 {
-    let r = refused(block, message);
-    if r != 0 {
-        return r;
+    let number = refused(block, message);
+    if number != 0 {
+        return number;
     }
     carry(block, message)
 }

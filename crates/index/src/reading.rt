@@ -78,7 +78,8 @@ fn digits(text: &[u8], c: Cursor, least: usize, most: usize, n: usize) -> Piece
     ended(least, sum, Cursor { at })
 }
 
-// A number from `least` to `most` at the cursor, without leading zeros.
+// A number from `least` to `most` at the cursor, without leading zeros. Mostly any number up to `most` there is high
+// enough; only where it is not, the digits are read again, to know at which of them it is wrong.
 pub(crate) fn number(text: &[u8], c: Cursor, least: usize, most: usize) -> Piece
     requires { ⌜ (least < 100000) × (most < 100000) ⌝ }
     ensures { λ r. ⌜ seen (now (text .entry)) r ≡ readNumber least most (drop (c .at) (now (text .entry))) ⌝ }
@@ -94,11 +95,16 @@ pub(crate) fn number(text: &[u8], c: Cursor, least: usize, most: usize) -> Piece
         }
         return Piece::Wrong(c);
     }
-    if is_digit(b) {
-        digits(text, c, least, most, 0)
-    } else {
-        Piece::Wrong(c)
+    if !is_digit(b) {
+        return Piece::Wrong(c);
     }
+    let any = digits(text, c, 0, most, 0);
+    if let Piece::Found(n, _) = any {
+        if least <= n {
+            return any;
+        }
+    }
+    digits(text, c, least, most, 0)
 }
 
 // The count at the cursor, which stands after a letter.

@@ -4,7 +4,7 @@ use crate::ALL;
 use index::Kind;
 ghost use mathlib.Core.Path.{_≡_};
 ghost use mathlib.Core.Bool.{false};
-ghost use lib.ListN.{length};
+ghost use lib.ListN.{length, replicate};
 ghost use Rattle.index.specs.Block.{Good, IsName};
 ghost use Rattle.rights.specs.Marks.{Nets, Marks, Round, Walked, Side};
 
@@ -58,15 +58,21 @@ fn rounds(block: &[u8], nets: &[u8; 2048], marks: &mut [u8], spare: &mut [u8], l
     }
 }
 
-// The marks of all names, each with the rights that a chain of at most `limit` M records from `start` carries to it.
-pub(crate) fn side(block: &[u8], nets: &[u8; 2048], start: u16, limit: usize) -> [u8; 1024]
+// One side of a question: the mark of each name, cleared so far, gets the rights that a chain of at most `limit` M records
+// from `start` carries to it.
+pub(crate) fn side(
+    block: &[u8],
+    nets: &[u8; 2048],
+    start: u16,
+    limit: usize,
+    marks: &mut [u8],
+    spare: &mut [u8],
+)
     requires { ⌜ Good (now block) × (Nets (now block) (now nets) × IsName start) ⌝ }
-    ensures { λ r. ⌜ Side (now (block .entry)) limit start r ⌝ }
+    requires { ⌜ (now marks ≡ replicate 1024 0) × (length (now spare) ≡ 1024) ⌝ }
+    ensures { λ _. ⌜ Side (now (block .entry)) limit start (now (marks .exit)) ⌝ }
 {
-    let mut marks = [0u8; 1024];
-    let mut spare = [0u8; 1024];
     let at = start as usize;
     marks[at] = ALL;
-    rounds(block, nets, &mut marks, &mut spare, limit);
-    marks
+    rounds(block, nets, marks, spare, limit);
 }

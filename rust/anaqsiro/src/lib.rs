@@ -323,4 +323,49 @@ mod tests {
         assert_eq!(Block::from_bytes(vec![]).clear(), Err(Refusal::BlockLength));
         assert_eq!(Block::with_room(1).apply([0u8; 3]), Err(Refusal::Form));
     }
+    #[test]
+    fn any_bytes_are_answered() {
+        let mut seed = 1u64;
+        let mut next = |below: usize| {
+            seed = seed.wrapping_mul(6_364_136_223_846_793_005).wrapping_add(1_442_695_040_888_963_407);
+            (seed >> 33) as usize % below
+        };
+        for _ in 0..20_000 {
+            let mut some = |most: usize| (0..next(most)).map(|_| next(4) as u8 * 85).collect::<Vec<u8>>();
+            let (bytes, other, mut out) = (some(80), some(20), some(30));
+            let mut block = if other.len() < 10 { Block::from_bytes(bytes) } else { Block::with_room(out.len() / 8) };
+            let kind = [Kind::Membership, Kind::Permission, Kind::Filter][out.len() % 3];
+            let before = block.clone();
+            let (name, mask) = (next(1500) as u64, Rights(next(256) as u8));
+            assert_eq!(block.may(name, 9, mask), block.rights(name, 9, mask).map(|held| held == mask));
+            let _ = (block.write_set(kind, name, &mut out), block.set_text(kind, name));
+            assert_eq!(block, before);
+            assert!(block.apply(&other).is_ok() || block == before);
+            let before = block.clone();
+            assert!(block.read_set(kind, name, &other).is_ok() || block == before);
+            assert!(block.clear().is_ok() || block == before);
+        }
+    }
+
+    #[test]
+    fn threads_share_nothing() {
+        let history = |first: u16| {
+            let mut block = Block::with_room(60);
+            for n in 0..4_000 {
+                let half = Some(Half { key: (first + 7 * n) % 8, id: (first + 11 * n) % 9, mask: Rights(1 + (n % 15) as u8) });
+                let (previous, new) = if n % 3 == 2 { (half, None) } else { (None, half) };
+                let kind = [Kind::Membership, Kind::Permission][usize::from(n % 2)];
+                let _ = block.apply(Message::new(kind, previous, new));
+            }
+            let rights: Vec<_> = (0..81).map(|n| block.rights(n / 9, n % 9, Rights::ALL)).collect();
+            (block, rights)
+        };
+        let alone: Vec<_> = (0..4).map(history).collect();
+        let together: Vec<_> = std::thread::scope(|scope| {
+            let threads: Vec<_> = (0..4).map(|first| scope.spawn(move || history(first))).collect();
+            threads.into_iter().map(|thread| thread.join().expect("no panic")).collect()
+        });
+        assert!(alone.iter().all(|(_, rights)| rights.iter().any(|held| held.is_ok_and(|held| held.0 > 0))));
+        assert_eq!(alone, together);
+    }
 }

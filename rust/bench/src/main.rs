@@ -1,7 +1,7 @@
 //! Times the library beside the plain program, in one run, and prints ratios: bench.
 //!
-//! Each figure is the median over several rounds; in a round both programs do the same calls on copies of the same block, the
-//! library first in every other round. Buffers are warm: each call works on what the call before left.
+//! Each figure is the median over several rounds of some milliseconds; in a round both programs do the same calls on copies of
+//! the same block, the library first in every other round. Buffers are warm: each call works on what the call before left.
 
 use second::gen::Rng;
 use std::hint::black_box;
@@ -16,7 +16,13 @@ extern "C" {
     fn anaqsiro_read(block: *mut u8, len: usize, kind: u64, key: u64, text: *const u8, text_len: usize) -> u64;
 }
 
-const ROUNDS: usize = 15;
+const ROUNDS: usize = 31;
+
+/// The calls of a round come in groups of so many, an even number, as each group leaves the block as it was.
+const GROUP: usize = 60;
+
+/// How long a round is to take, in seconds.
+const LONG: f64 = 0.004;
 
 fn message(kind: u8, flags: u8, key: u16, id: u16, mask: u8) -> [u8; 12] {
     let [k, i] = [key.to_le_bytes(), id.to_le_bytes()];
@@ -71,7 +77,9 @@ fn median(mut values: Vec<f64>) -> f64 {
 }
 
 /// The time of a library call and the plain program's, as medians.
-fn both(times: usize, mut library: impl FnMut(usize), mut rust: impl FnMut(usize)) -> (f64, f64) {
+fn both(mut library: impl FnMut(usize), mut rust: impl FnMut(usize)) -> (f64, f64) {
+    seconds(GROUP, &mut library);
+    let times = GROUP * (LONG / (GROUP as f64 * seconds(GROUP, &mut rust))).ceil() as usize;
     let (mut ours, mut theirs) = (Vec::new(), Vec::new());
     for round in 0..ROUNDS {
         if round % 2 == 0 {
@@ -86,7 +94,7 @@ fn both(times: usize, mut library: impl FnMut(usize), mut rust: impl FnMut(usize
 }
 
 fn row(what: &str, (ours, theirs): (f64, f64)) {
-    println!("| {what} | {:.2} | {:.1} µs |", ours / theirs, theirs * 1e6);
+    println!("| {what} | {:.2} | {:.2} µs |", ours / theirs, theirs * 1e6);
 }
 
 fn measure(name: &str, b: &[u8]) {
@@ -95,7 +103,6 @@ fn measure(name: &str, b: &[u8]) {
     println!("\n{name}\n\n| call | library / Rust | Rust |\n|---|---|---|");
     let ask = |user: u64, object: u64| {
         both(
-            60,
             |n| discard(black_box(unsafe { anaqsiro_rights(b.as_ptr(), len, user.max(people[n % 64]), object + n as u64 % 100, 15) })),
             |n| discard(black_box(plain::rights(b, user.max(people[n % 64]), object + n as u64 % 100, 15))),
         )
@@ -105,7 +112,6 @@ fn measure(name: &str, b: &[u8]) {
     row(
         "the short question",
         both(
-            60,
             |n| discard(black_box(unsafe { anaqsiro_may(b.as_ptr(), len, people[n % 64], 1 + n as u64 % 100, 2) })),
             |n| discard(black_box(plain::may(b, people[n % 64], 1 + n as u64 % 100, 2))),
         ),
@@ -116,7 +122,6 @@ fn measure(name: &str, b: &[u8]) {
     row(
         "a message that changes a count",
         both(
-            60,
             |n| discard(black_box(unsafe { anaqsiro_message(one.as_mut_ptr(), len, bump[n % 2].as_ptr(), 12) })),
             |n| discard(black_box(plain::message(&mut two, &bump[n % 2]))),
         ),
@@ -125,7 +130,6 @@ fn measure(name: &str, b: &[u8]) {
     row(
         "a message that inserts, or removes, in front of all",
         both(
-            60,
             |n| discard(black_box(unsafe { anaqsiro_message(one.as_mut_ptr(), len, insert[n % 2].as_ptr(), 12) })),
             |n| discard(black_box(plain::message(&mut two, &insert[n % 2]))),
         ),
@@ -135,16 +139,14 @@ fn measure(name: &str, b: &[u8]) {
     row(
         "writing the sets of objects",
         both(
-            60,
-            |n| discard(black_box(unsafe { anaqsiro_write(b.as_ptr(), len, 2, n as u64, out.as_mut_ptr(), 60_000) })),
-            |n| discard(black_box(plain::write(b, 2, n as u64, &mut text))),
+            |n| discard(black_box(unsafe { anaqsiro_write(b.as_ptr(), len, 2, n as u64 % 200, out.as_mut_ptr(), 60_000) })),
+            |n| discard(black_box(plain::write(b, 2, n as u64 % 200, &mut text))),
         ),
     );
     let texts = [&b"3;MR;12;MRU2"[..], b""];
     row(
         "reading a set of two records, and taking it out",
         both(
-            60,
             |n| discard(black_box(unsafe { anaqsiro_read(one.as_mut_ptr(), len, 2, 0, texts[n % 2].as_ptr(), texts[n % 2].len()) })),
             |n| discard(black_box(plain::read(&mut two, 2, 0, texts[n % 2]))),
         ),
@@ -172,7 +174,6 @@ fn large_set() {
     row(
         "reading it in, and taking it out",
         both(
-            20,
             |n| discard(black_box(unsafe { anaqsiro_read(one.as_mut_ptr(), 40_976, 2, 5, texts[n % 2].as_ptr(), texts[n % 2].len()) })),
             |n| discard(black_box(plain::read(&mut two, 2, 5, texts[n % 2]))),
         ),
@@ -183,7 +184,6 @@ fn large_set() {
     row(
         "writing it",
         both(
-            20,
             |_| discard(black_box(unsafe { anaqsiro_write(one.as_ptr(), 40_976, 2, 5, out.as_mut_ptr(), 60_000) })),
             |_| discard(black_box(plain::write(&one, 2, 5, &mut room))),
         ),
@@ -198,9 +198,8 @@ fn growth() {
     for memberships in [0, 250, 500, 1000, 1800] {
         let b = block(memberships, 200, 20, 10);
         let (ours, theirs) = both(
-            60,
-            |n| discard(black_box(unsafe { anaqsiro_rights(b.as_ptr(), b.len(), 200 + 9 * n as u64, 1 + n as u64, 15) })),
-            |n| discard(black_box(plain::rights(&b, 200 + 9 * n as u64, 1 + n as u64, 15))),
+            |n| discard(black_box(unsafe { anaqsiro_rights(b.as_ptr(), b.len(), 200 + 9 * (n as u64 % 60), 1 + n as u64 % 60, 15) })),
+            |n| discard(black_box(plain::rights(&b, 200 + 9 * (n as u64 % 60), 1 + n as u64 % 60, 15))),
         );
         let (first, second) = *base.get_or_insert((ours, theirs));
         println!("| {memberships} | {:.1} | {:.1} |", ours / first, theirs / second);

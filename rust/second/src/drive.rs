@@ -48,11 +48,12 @@ impl Lent {
 
 pub const CALLS: [&str; 6] = ["make", "message", "rights", "may", "write", "read"];
 
-/// How often each call gave each number.
+/// How often each call gave each number, and how many questions found a right.
 #[derive(Default)]
 pub struct Tally {
     pub calls: u64,
     pub numbers: [[u64; 11]; 6],
+    pub held: u64,
 }
 
 impl Tally {
@@ -60,6 +61,7 @@ impl Tally {
     fn agree(&mut self, call: usize, got: u64, number: u32, value: u32, lent: &[(&Lent, &[u8])]) -> Result<(), String> {
         self.calls += 1;
         self.numbers[call][number as usize] += 1;
+        self.held += u64::from((call == 2 || call == 3) && value > 0);
         if got != packed(number, value) {
             return Err(format!("returned {}, {} where {number}, {value} is right", got >> 32, got as u32));
         }
@@ -92,8 +94,8 @@ fn one_call(lib: &dyn Library, rng: &mut Rng, tally: &mut Tally, block: &[u8], i
             Ok(after)
         }
         2 | 3 => {
-            let name = |rng: &mut Rng| if rng.one_in(6) { rng.pick(&[9, 100]) } else { gen::number(rng, 1024) };
-            let (user, object, request) = (name(rng), name(rng), gen::number(rng, 16));
+            let (user, object) = gen::question(rng, index);
+            let request = if rng.one_in(3) { gen::number(rng, 16) } else { 1 + rng.below(15) };
             let (number, value) =
                 if call == 2 { crate::rights(block, user, object, request) } else { crate::may(block, user, object, request) };
             let lent = b.lend();

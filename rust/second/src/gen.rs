@@ -53,8 +53,29 @@ fn counts(rng: &mut Rng, kind: usize) -> Counts {
     counts
 }
 
+/// A record with names from a pool of so many.
+fn insert(rng: &mut Rng, index: &mut Index, pool: u64) {
+    let kind = rng.pick(&[0, 0, 1, 1, 2]);
+    let name = (name(rng, pool), name(rng, pool));
+    let counts = counts(rng, kind);
+    index.parts[kind].insert(name, counts);
+}
+
+/// A block as long as it may be, full but for two places at most.
+fn largest(rng: &mut Rng) -> Index {
+    let mut index = Index::empty(40_976);
+    let (pool, records) = (rng.pick(&[64, 1024]), 2_048 - rng.pick(&[0, 0, 1, 2]));
+    while index.records() < records {
+        insert(rng, &mut index, pool);
+    }
+    index
+}
+
 /// A good block. Names come from a small pool, so that chains, loops and shared records are common.
 pub fn index(rng: &mut Rng) -> Index {
+    if rng.one_in(200) {
+        return largest(rng);
+    }
     let pool = rng.pick(&[2u64, 4, 8, 24, 100, 1024]);
     let records = match rng.below(10) {
         0 => 0,
@@ -64,10 +85,7 @@ pub fn index(rng: &mut Rng) -> Index {
     };
     let mut index = Index::empty(0);
     for _ in 0..records {
-        let kind = rng.pick(&[0, 0, 1, 1, 2]);
-        let name = (name(rng, pool), name(rng, pool));
-        let counts = counts(rng, kind);
-        index.parts[kind].insert(name, counts);
+        insert(rng, &mut index, pool);
     }
     if rng.one_in(6) {
         chain(rng, &mut index);
@@ -227,6 +245,30 @@ pub fn number(rng: &mut Rng, limit: u64) -> u64 {
         4 => rng.below(limit),
         _ => rng.below(limit.min(12)),
     }
+}
+
+/// The name, or one that a chain of some M records leads from to it.
+fn before(rng: &mut Rng, index: &Index, mut name: u16) -> u64 {
+    for _ in 0..rng.pick(&[0, 1, 1, 2, 3, 32, 33]) {
+        let keys: Vec<u16> = index.parts[0].keys().filter(|record| record.1 == name).map(|record| record.0).collect();
+        if keys.is_empty() {
+            break;
+        }
+        name = rng.pick(&keys);
+    }
+    name.into()
+}
+
+/// A user and an object: mostly such that a P record may grant something between them.
+pub fn question(rng: &mut Rng, index: &Index) -> (u64, u64) {
+    let grants = &index.parts[1];
+    let any = |rng: &mut Rng| if rng.one_in(6) { rng.pick(&[9, 100]) } else { number(rng, 1024) };
+    if grants.is_empty() || rng.one_in(4) {
+        return (any(rng), any(rng));
+    }
+    let &(object, user) = grants.keys().nth(rng.below(grants.len() as u64) as usize).expect("a record");
+    let object = if object == 0 { any(rng) } else { before(rng, index, object) };
+    (before(rng, index, user), object)
 }
 
 /// A text: of a set of the block, of a set of its own, or one that is wrong in some way.

@@ -57,6 +57,7 @@ fn main() {
                 let met = numbers.iter().enumerate().filter(|(_, &n)| n > 0).map(|(r, n)| format!("{r}: {n}"));
                 println!("{call}: {}", met.collect::<Vec<_>>().join(", "));
             }
+            println!("questions that found a right: {}", tally.held);
             println!("comparison: {cases} cases, {} calls, seed {seed}, no disagreement", tally.calls);
         }
     }

@@ -1,9 +1,15 @@
 -- `index::reading::number` meets its contract: a step of `readNumber` for each way.
-use mathlib.Core.Path.{sym, _∙_}
+use Prim.Native.Nat.{ℕ}
+use mathlib.Core.Path.{_≡_, sym, ap, _∙_}
 use denote.Ref.{now}
+use lib.ListN.{drop}
 use native.Mathlib.Omega.{arith}
-use Rattle.index.proofs.ReadSteps.{number-end, number-zero, number-no-zero, number-digit, number-other}
 use borrow.Author.Needs.{needs}
+use borrow.Author.Tests.{not-true, not-false}
+use Rattle.index.specs.Reading.{readDigits, readNumber}
+use Rattle.index.specs.Pieces.{seen}
+use Rattle.index.proofs.ReadNumbers.{high-enough}
+use Rattle.index.proofs.ReadSteps.{number-end, number-zero, number-no-zero, number-digit, number-other}
 use Rattle.index.proofs.reading.number.Statement.{statement}
 use Rattle.index.proofs.reading.number.Tie as tie
 
@@ -21,19 +27,29 @@ returns-3 c =
     let a = c .before .before .before .before .before .args in
     sym (number-no-zero (now (a .text)) (a .c .at) (a .least) (a .most) (c .before .before .before .if1 .left) (c .before .if2 .taken) (c .if3 .left))
 
-digits-requires : tie.Need-digits-requires
-digits-requires c κs = omega (arith, c .before .before .before .before .before .before .pre)
-
 returns-4 : tie.Need-returns-4
 returns-4 c =
-    let a = c .before .before .before .before .before .before .before .args in
-    c .digits .ensures
-    ∙ sym (number-digit (now (a .text)) (a .c .at) (a .least) (a .most) (c .before .before .before .before .before .if1 .left) (c .before .before .before .if2 .left) (sym (c .before .before .is-digit .ensures) ∙ c .before .if4 .taken))
+    let a = c .before .before .before .before .before .before .args in
+    sym (number-other (now (a .text)) (a .c .at) (a .least) (a .most) (c .before .before .before .before .if1 .left) (c .before .before .if2 .left) (sym (c .before .is-digit .ensures) ∙ not-true _ (c .if4 .taken)))
+
+-- A digit that is not 0 stands at the cursor: the number is what its digits are.
+by-digits : (c : tie.Else4) (least : ℕ) → let a = c .before .before .before .before .before .before .args in
+    readNumber least (a .most) (drop (a .c .at) (now (a .text))) ≡ readDigits least (a .most) 0 (drop (a .c .at) (now (a .text)))
+by-digits c least =
+    let a = c .before .before .before .before .before .before .args in
+    number-digit (now (a .text)) (a .c .at) least (a .most) (c .before .before .before .before .if1 .left) (c .before .before .if2 .left) (sym (c .before .is-digit .ensures) ∙ not-false _ (c .if4 .left))
 
 returns-5 : tie.Need-returns-5
 returns-5 c =
-    let a = c .before .before .before .before .before .before .args in
-    sym (number-other (now (a .text)) (a .c .at) (a .least) (a .most) (c .before .before .before .before .if1 .left) (c .before .before .if2 .left) (sym (c .before .is-digit .ensures) ∙ c .if4 .left))
+    let a = c .before .before .before .before .before .before .before .before .before .before .before .args in
+    let pre = c .before .before .before .before .before .before .before .before .before .before .before .pre in
+    sym (high-enough (a .least) (a .most) (pre .1) (drop (a .c .at) (now (a .text))) (by-digits (c .before .before .before .before .before) 0)
+    (sym (c .before .before .before .before .digits .ensures) ∙ ap (seen (now (a .text))) (c .before .before .any .given .1)) (c .if5 .taken))
+
+returns-6 : tie.Need-returns-6
+returns-6 c =
+    let a = c .before .before .before .before .before .before .before .before .before .args in
+    c .digits2 .ensures ∙ sym (by-digits (c .before .before .before) (a .least))
 
 pub number-spec : {M : Type 1} → statement M
 number-spec =
@@ -45,6 +61,10 @@ number-spec =
     returns-2
     returns-3
     (λ c κs. search needs)
-    digits-requires
     returns-4
-    returns-5)
+    (λ c κs. search needs)
+    (λ c. search needs)
+    returns-5
+    (λ c. search needs)
+    (λ c κs. search needs)
+    returns-6)

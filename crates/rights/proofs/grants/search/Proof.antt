@@ -1,37 +1,34 @@
--- `grants::search` meets its contract. The loops' invariants: what the P records up to the cursor grant, and that none from
--- there on has a key below the object's.
-use Prim.Native.Nat.{ℕ, _+_, _-_, _<_, _≤_}
+-- `grants::search` meets its contract. The loops' invariants: what the P records up to the cursor grant; the records that
+-- the inner loop sees are of one object.
+use Prim.Native.Nat.{_+_, _-_, _<_, _≤_}
 use mathlib.Core.Path.{_≡_, refl, sym, _∙_}
 use mathlib.Core.Logic.{⊎-elim}
-use native.Mathlib.Nat.{eq-or-lt-of-le}
 use native.Mathlib.Omega.{arith}
 use borrow.Author.Needs.{needs}
 use lib.ListN.{getD}
 use lib.Bits.{bitOr, bitAnd}
 use Rattle.index.specs.declared.Kind.the-variants.{Permission}
-use Rattle.index.specs.Block.{from, size, records, Of, key}
-use Rattle.index.proofs.Range.{lt-or-le}
+use Rattle.index.specs.Block.{from, size, Of, key}
 use Rattle.index.proofs.Records.{of-records}
 use Rattle.rights.proofs.ByNumber.{few, key-name, id-name}
-use Rattle.rights.proofs.Granting.{Upto, upto-none, upto-more, seen-all, found-all, Ahead, ahead-more}
+use Rattle.rights.proofs.Granting.{Upto, upto-none, upto-more, seen-all, found-all}
 use Rattle.rights.proofs.grants.search.Statement.{statement}
 use Rattle.rights.proofs.grants.search.Tie as tie
 
 abbrev Inv-loop : tie.InvT-loop
-Inv-loop block nets users objects request lo end found₀ g mark cursor found =
-    (from block Permission ≤ cursor) × (cursor ≤ end) × Ahead block g cursor end
-    × Upto block users objects (from block Permission) cursor found
+Inv-loop block nets users objects request first end found₀ g mark i₀ found i =
+    (i₀ ≤ i) × (i < end) × (g ≡ key block i) × Upto block users objects (from block Permission) i found
 
 abbrev μ-loop : tie.MeasureT-loop
-μ-loop block nets users objects request lo end found₀ g mark cursor found = end - cursor
+μ-loop block nets users objects request first end found₀ g mark i₀ found i = end - i
 
 abbrev Inv-search : tie.InvT-search
-Inv-search block nets users objects request lo end found₀ g₀ cursor found g =
-    (g ≤ 1024) × (end ≡ from block Permission + size block Permission) × (end < 65536) × (from block Permission ≤ cursor)
-    × (cursor ≤ end) × Ahead block g cursor end × Upto block users objects (from block Permission) cursor found
+Inv-search block nets users objects request first₀ end found₀ first found =
+    (end ≡ from block Permission + size block Permission) × (end < 65536) × (from block Permission ≤ first) × (first ≤ end)
+    × Upto block users objects (from block Permission) first found
 
 abbrev μ-search : tie.MeasureT-search
-μ-search block nets users objects request lo end found₀ g₀ cursor found g = 1024 - g
+μ-search block nets users objects request first₀ end found₀ first found = end - first
 
 add-end : tie.Need-add-end Inv-loop μ-loop Inv-search μ-search
 add-end c = omega (arith, few (c .before .before .before .pre .0), c .before .size-of .ensures, c .size-of2 .ensures)
@@ -42,92 +39,98 @@ search-holds c =
     let b = start .args .block .now in
     let m = c .before .size-of .ensures in
     let p = c .size-of2 .ensures in (
-      omega arith,
       omega (arith, m, p),
       omega (arith, few (start .pre .0), m, p),
       omega (arith, m),
       omega arith,
-      λ l. omega arith,
       rw m (upto-none b (start .args .users .now) (start .args .objects .now) (from b Permission)),
     )
 
+element-copy-out-mark : tie.Need-element-copy-out-mark Inv-loop μ-loop Inv-search μ-search
+element-copy-out-mark c =
+    let inv = c .before .before .search .inv in
+    let start = c .before .before .before .before .before .before in
+    rw (c .key-of .ensures) (key-name (start .pre .0) Permission (inv .2, omega (arith, inv .0)))
+
 loop-holds : tie.Need-loop-holds Inv-loop μ-loop Inv-search μ-search
-loop-holds c =
-    let search-at = c .before .before .search in
-    (search-at .inv .3, search-at .inv .4, search-at .inv .5, search-at .inv .6)
+loop-holds c = (omega arith, omega arith, c .before .key-of .ensures, c .before .before .before .search .inv .4)
 
 -- The start of the function, the outer loop and the inner one, seen from a record's turn.
 module _ (c : tie.After-id-of Inv-loop μ-loop Inv-search μ-search) where
   abbrev start : tie.Start Inv-loop μ-loop Inv-search μ-search
-  start = c .before .before .before .before .before .before .before .before .before .before .before
+  start = c .before .before .before .before .before .before .before .before .before
 
   abbrev outer : tie.At-search Inv-loop μ-loop Inv-search μ-search
-  outer = c .before .before .before .before .before .before .before
+  outer = c .before .before .before .before .before
 
   abbrev inner : tie.At-loop Inv-loop μ-loop Inv-search μ-search
-  inner = c .before .before .before .before
+  inner = c .before
 
-  -- The record at the cursor is a P record.
-  of : Of (start .args .block .now) Permission (inner .loop .cursor)
-  of = (inner .loop .inv .0, omega (arith, outer .search .inv .1))
+  -- The record is a P record.
+  of : Of (start .args .block .now) Permission (inner .loop .i)
+  of = (omega (arith, outer .search .inv .2, inner .loop .inv .0), omega (arith, outer .search .inv .0, inner .loop .inv .1))
 
   -- With that record, what is granted up to and with it.
   more : let b = start .args .block .now in
-      let i = inner .loop .cursor in
-      let mark = getD (start .args .objects .now) (outer .search .g) 0 in
+      let i = inner .loop .i in
+      let mark = getD (start .args .objects .now) (c .before .before .before .key-of .result) 0 in
       let user = getD (start .args .users .now) (c .id-of .result) 0 in
       Upto b (start .args .users .now) (start .args .objects .now) (from b Permission) (i + 1)
       (bitOr (inner .loop .found) (bitAnd (bitAnd (getD (start .args .nets .now) i 0) mark) user))
   more =
       let b = start .args .block .now in
-      let i = inner .loop .cursor in
+      let i = inner .loop .i in
       let inv = inner .loop .inv in
       upto-more b (start .args .users .now) (start .args .objects .now) (from b Permission) i (inner .loop .found)
-      (getD (start .args .nets .now) i 0) (inv .0) (start .pre .1 .each i (of-records Permission b i of)) (inv .3) (outer .search .g)
-      (c .id-of .result) (sym (c .before .if1 .left) ∙ c .before .before .key-of .ensures) (c .id-of .ensures)
+      (getD (start .args .nets .now) i 0) (of .0) (start .pre .1 .each i (of-records Permission b i of)) (inv .3)
+      (c .before .before .before .key-of .result) (c .id-of .result) (inv .2) (c .id-of .ensures)
 
 element-copy-out-found : tie.Need-element-copy-out-found Inv-loop μ-loop Inv-search μ-search
 element-copy-out-found c =
-    omega (arith, of-records Permission (start c .args .block .now) (inner c .loop .cursor) (of c), start c .pre .1 .few)
+    omega (arith, of-records Permission (start c .args .block .now) (inner c .loop .i) (of c), start c .pre .1 .few)
 
 element-copy-out-found-2 : tie.Need-element-copy-out-found-2 Inv-loop μ-loop Inv-search μ-search
 element-copy-out-found-2 c = let at = c .before in rw (at .id-of .ensures) (id-name (start at .pre .0) Permission (of at))
 
+add-i : tie.Need-add-i Inv-loop μ-loop Inv-search μ-search
+add-i c = let at = c .before .before .before in omega (arith, outer at .search .inv .1, inner at .loop .inv .1)
+
+loop-less : tie.Need-loop-less Inv-loop μ-loop Inv-search μ-search
+loop-less c = omega (arith, inner (c .before .before .before .before .before .before) .loop .inv .1)
+
 loop-again : tie.Need-loop-again Inv-loop μ-loop Inv-search μ-search
 loop-again c =
-    let at = c .before .before .before in
-    let loop = inner at .loop in
-    let search-at = outer at .search in
-    let sizes = c .before .before .before .before .before .before .before .before .before .before .before in (
-      omega (arith, loop .inv .0),
-      omega arith,
-      ahead-more (start at .pre .0) (search-at .g) (loop .cursor) (from (start at .args .block .now) Permission)
-          (sizes .before .size-of .result + sizes .size-of2 .result) refl (search-at .inv .1) (loop .inv .0)
-          (sym (at .before .before .key-of .ensures) ∙ at .before .if1 .left),
+    let at = c .before .before .before .before .before .before in (
+      omega (arith, inner at .loop .inv .0),
+      omega (arith, inner at .loop .inv .1),
+      sym (c .if3 .left) ∙ c .before .key-of2 .ensures,
       more at,
     )
 
+search-less : tie.Need-search-less Inv-loop μ-loop Inv-search μ-search
+search-less c =
+    let inv = inner (c .before .before .before .before) .loop .inv in omega (arith, inv .0, inv .1)
+
 search-again : tie.Need-search-again Inv-loop μ-loop Inv-search μ-search
 search-again c =
-    let search-at = c .before .before .before .before .search in (
-      omega arith,
-      search-at .inv .1,
-      search-at .inv .2,
-      c .before .loop .inv .0,
-      c .before .loop .inv .1,
-      (λ l.
-          ⊎-elim (λ w. absurd (omega arith)) (λ w. above (c .before .loop .inv .2 l) (λ e. w .2 .taken (w .1 .ensures ∙ e))) (c .loop-test .came)),
-      c .before .loop .inv .3,
-    )
-  where
-    above : {g k : ℕ} → g ≤ k → (k ≡ g → ⊥) → g + 1 ≤ k
-    above l ne = ⊎-elim (λ e. absurd (ne (sym e))) (λ h. omega arith) (eq-or-lt-of-le l)
+    let at = c .before .before .before .before in
+    let inv = outer at .search .inv in
+    (inv .0, inv .1, omega (arith, of at .0), omega (arith, inner at .loop .inv .1), more at)
+
+search-less-2 : tie.Need-search-less-2 Inv-loop μ-loop Inv-search μ-search
+search-less-2 c =
+    let inv = inner (c .before .before .before .before .before .before) .loop .inv in omega (arith, inv .0, inv .1)
+
+search-again-2 : tie.Need-search-again-2 Inv-loop μ-loop Inv-search μ-search
+search-again-2 c =
+    let at = c .before .before .before .before .before .before in
+    let inv = outer at .search .inv in
+    (inv .0, inv .1, omega (arith, of at .0), omega (arith, inner at .loop .inv .1), more at)
 
 returns : tie.Need-returns Inv-loop μ-loop Inv-search μ-search
 returns c =
     let start = c .before .before .before .before .before .before in
     let search-at = c .before .before .search in
-    let good = start .pre .0 in
     let b = start .args .block .now in
     let us = start .args .users .now in
     let os = start .args .objects .now in
@@ -136,33 +139,21 @@ returns c =
     let inv = search-at .inv in
     ⊎-elim
     (λ w.
-    rw (w .2)
-    (seen-all b us os lo good refl (search-at .cursor) (search-at .found) request (inv .6)
-    (⊎-elim
-    (λ l.
-    let of : Of b Permission (search-at .cursor) = (inv .3, omega (arith, inv .1)) in
-    absurd (omega (arith, w .0 .left, inv .5 l, key-name good Permission of)))
-    (λ l. omega (arith, inv .4, inv .1))
-    (lt-or-le (search-at .cursor) (c .before .before .before .before .size-of .result + c .before .before .before .size-of2 .result)))))
+    rw (w .1)
+    (seen-all b us os lo (start .pre .0) refl (search-at .first) (search-at .found) request (inv .4) (omega (arith, inv .0, inv .3))))
     (λ w.
     let at : tie.After-id-of Inv-loop μ-loop Inv-search μ-search = record {
       before = record {
         before = record {
-          before = record {
-            before = record {
-              before = record { before = record { before = c .before .before; search-test = w .0 }; mark = w .1 };
-              loop = w .2;
-            };
-            loop-test = w .3;
-          };
-          key-of = w .4;
+          before = record { before = record { before = c .before .before; search-test = w .0 }; key-of = w .1 };
+          mark = w .2;
         };
-        if1 = w .5;
+        loop = w .3;
       };
-      id-of = w .6;
+      id-of = w .4;
     } in
-    found-all b us os lo good refl (w .2 .cursor + 1) (c .before .search-test .found) request (rw (w .11) (more at))
-    (omega (arith, w .3 .taken, inv .1)) (rw (w .11) (w .9 .taken)))
+    found-all b us os lo (start .pre .0) refl (w .3 .i + 1) (c .before .search-test .found) request (rw (w .8) (more at))
+    (omega (arith, w .3 .inv .1, inv .0)) (rw (w .8) (w .7 .taken)))
     (c .before .search-test .came)
 
 pub search-spec : {M : Type 1} → statement M
@@ -177,19 +168,22 @@ search-spec =
     (λ c κs. search needs)
     add-end
     search-holds
-    (λ c. search needs)
-    loop-holds
     (λ c κs. search needs)
     (λ c. search needs)
+    element-copy-out-mark
+    loop-holds
     (λ c. search needs)
     (λ c κs. search needs)
     (λ c. search needs)
     element-copy-out-found
     element-copy-out-found-2
+    add-i
+    (λ c κs. search needs)
     (λ c. search needs)
-    (λ c. search needs)
+    loop-less
     loop-again
-    (λ c. search needs)
-    (λ c. search needs)
+    search-less
     search-again
+    search-less-2
+    search-again-2
     returns)
