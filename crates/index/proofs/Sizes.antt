@@ -7,42 +7,46 @@ use lib.ListN.{length}
 use Rattle.index.specs.declared.Kind.{Kind}
 use Rattle.index.specs.declared.Kind.the-variants.{Membership, Permission, Filter}
 use Rattle.index.specs.Block.{headerLength, number, size, records, place}
-use Rattle.index.specs.Bytes.{Put, Inside, Shifted, Spliced}
+use Rattle.index.specs.Bytes.{Put, Four, Inside, Shifted, Spliced}
 use Rattle.index.specs.Edits.{three, Headed, Resized}
 use Rattle.index.proofs.Bytes.{inside-none, inside-then, inside-wide, number-below}
 use Rattle.index.proofs.Checked.{each-kind}
 
 -- A number is written, and then what stands behind it up to hi.
-put-then : {i n : ℕ} (hi : ℕ) {a b c : List ℕ} → i + 2 ≤ hi → Put i n a b → Inside (i + 2) hi b c → Inside i hi a c × (number c i ≡ n)
-put-then {i} hi l w v = (
-  inside-then (inside-wide i hi (w .rest) (omega arith) l) v (omega arith) (omega arith),
+put-then : {i n j : ℕ} (hi : ℕ) {a b c : List ℕ} → i + 2 ≤ j → j ≤ hi → Put i n a b → Inside j hi b c → Inside i hi a c × (number c i ≡ n)
+put-then {i} hi l h w v = (
+  inside-then (inside-wide i hi (w .rest) (omega arith) (omega arith)) v (omega arith) (omega arith),
   number-below v i (omega arith) ∙ w .here,
 )
 
-pub headed : {m p f : ℕ} {b₀ b₁ b₂ b₃ b₄ b₅ b₆ b₇ b₈ : List ℕ} → Put 0 m b₀ b₁ → Put 2 p b₁ b₂ → Put 4 f b₂ b₃ → Put 6 0 b₃ b₄
-    → Put 8 16 b₄ b₅ → Put 10 (16 + 20 * m) b₅ b₆ → Put 12 (16 + 20 * (m + p)) b₆ b₇ → Put 14 (16 + 20 * (m + p + f)) b₇ b₈
-    → Headed m p f b₀ b₈
-headed {m} {p} {f} {b₀} {b₈ = b₈} w₀ w₁ w₂ w₃ w₄ w₅ w₆ w₇ =
-    let v₇ = put-then 16 (omega arith) w₇ (inside-none 16 16 b₈) in
-    let v₆ = put-then 16 (omega arith) w₆ (v₇ .0) in
-    let v₅ = put-then 16 (omega arith) w₅ (v₆ .0) in
-    let v₄ = put-then 16 (omega arith) w₄ (v₅ .0) in
-    let v₃ = put-then 16 (omega arith) w₃ (v₄ .0) in
-    let v₂ = put-then 16 (omega arith) w₂ (v₃ .0) in
-    let v₁ = put-then 16 (omega arith) w₁ (v₂ .0) in
-    let v₀ = put-then 16 (omega arith) w₀ (v₁ .0) in
+pub four : {i w x y z : ℕ} {b₀ b₁ b₂ b₃ b₄ : List ℕ} → Put i w b₀ b₁ → Put (i + 2) x b₁ b₂ → Put (i + 4) y b₂ b₃ → Put (i + 6) z b₃ b₄
+    → Four i w x y z b₀ b₄
+four {i} {b₄ = b₄} w₀ w₁ w₂ w₃ =
+    let v₃ = put-then (i + 8) (omega arith) (omega arith) w₃ (inside-none (i + 8) (i + 8) b₄) in
+    let v₂ = put-then (i + 8) (omega arith) (omega arith) w₂ (v₃ .0) in
+    let v₁ = put-then (i + 8) (omega arith) (omega arith) w₁ (v₂ .0) in
+    let v₀ = put-then (i + 8) (omega arith) (omega arith) w₀ (v₁ .0) in
+    record { rest = v₀ .0; first = v₀ .1; second = v₁ .1; third = v₂ .1; fourth = v₃ .1 }
+
+pub headed : {m p f : ℕ} {b₀ b₁ b₂ : List ℕ} → Four 0 m p f 0 b₀ b₁
+    → Four 8 16 (16 + 20 * m) (16 + 20 * m + 20 * p) (16 + 20 * m + 20 * p + 20 * f) b₁ b₂ → Headed m p f b₀ b₂
+headed {m} {p} {f} {b₂ = b₂} s o =
+    let keep : (t : ℕ) → t + 1 < 8 → number b₂ t ≡ number _ t = λ t l. number-below (o .rest) t (omega arith) in
+    let m-size = keep 0 (omega arith) ∙ s .first in
+    let p-size = keep 2 (omega arith) ∙ s .second in
+    let f-size = keep 4 (omega arith) ∙ s .third in
     record {
-      rest = v₀ .0;
-      sizes = each-kind (λ K. size b₈ K ≡ three m p f K) (v₀ .1) (v₁ .1) (v₂ .1);
+      rest = inside-then (inside-wide 0 16 (s .rest) (omega arith) (omega arith)) (o .rest) (omega arith) (omega arith);
+      sizes = each-kind (λ K. size b₂ K ≡ three m p f K) m-size p-size f-size;
       header =
           λ l.
           record {
-            zero-at-6 = v₃ .1;
-            m-offset = v₄ .1;
-            p-offset = omega (arith, v₀ .1, v₅ .1);
-            f-offset = omega (arith, v₀ .1, v₁ .1, v₆ .1);
-            end-offset = omega (arith, v₀ .1, v₁ .1, v₂ .1, v₇ .1);
-            fits = omega (arith, v₀ .1, v₁ .1, v₂ .1, v₀ .0 .same-length);
+            zero-at-6 = keep 6 (omega arith) ∙ s .fourth;
+            m-offset = o .first;
+            p-offset = omega (arith, m-size, o .second);
+            f-offset = omega (arith, m-size, p-size, o .third);
+            end-offset = omega (arith, m-size, p-size, f-size, o .fourth);
+            fits = omega (arith, m-size, p-size, f-size, s .rest .same-length, o .rest .same-length);
           };
     }
 

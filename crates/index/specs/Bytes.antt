@@ -24,6 +24,14 @@ pub record Put (i n : ℕ) (b b′ : List ℕ) : Type 0 where
   pub here : number b′ i ≡ n
   pub rest : Inside i (i + 2) b b′
 
+-- b′ is b with four numbers, one after the other from byte i on.
+pub record Four (i w x y z : ℕ) (b b′ : List ℕ) : Type 0 where
+  pub rest : Inside i (i + 8) b b′
+  pub first : number b′ i ≡ w
+  pub second : number b′ (i + 2) ≡ x
+  pub third : number b′ (i + 4) ≡ y
+  pub fourth : number b′ (i + 6) ≡ z
+
 -- What stood at byte p and after it stands at byte q and after it, what stood before both is as it was.
 pub record Shifted (p q : ℕ) (b b′ : List ℕ) : Type 0 where
   pub same-length : length b′ ≡ length b

@@ -9,7 +9,7 @@ use crate::places::size_at;
 ghost use Prim.Native.Nat.{_+_, _-_, _*_, _<_, _≤_};
 ghost use lib.ListN.{length, getD};
 ghost use Rattle.index.specs.Block.{headerLength, greatestLength, recordLength, place, size, records};
-ghost use Rattle.index.specs.Bytes.{Shifted, Spliced};
+ghost use Rattle.index.specs.Bytes.{Four, Shifted, Spliced};
 ghost use Rattle.index.specs.Checks.{Zero};
 ghost use Rattle.index.specs.Edits.{Filled, Headed, Resized, Opens};
 
@@ -63,19 +63,26 @@ pub(crate) fn shift(b: &mut [u8], p: usize, q: usize, end: usize)
     clear(b, last, end);
 }
 
+// Four numbers, one after the other from byte i on.
+fn put_four(b: &mut [u8], i: usize, w: usize, x: usize, y: usize, z: usize)
+    requires { ⌜ (i + 8 ≤ length (now b)) × (w < 65536) × (x < 65536) × (y < 65536) × (z < 65536) ⌝ }
+    ensures { λ _. ⌜ Four i w x y z (now (b .entry)) (now (b .exit)) ⌝ }
+{
+    put_number(b, i, w);
+    put_number(b, i + 2, x);
+    put_number(b, i + 4, y);
+    put_number(b, i + 6, z);
+}
+
 // The header of m, p and f records.
 pub(crate) fn put_header(b: &mut [u8], m: usize, p: usize, f: usize)
     requires { ⌜ (headerLength ≤ length (now b)) × (place (m + p + f) < 65536) ⌝ }
     ensures { λ _. ⌜ Headed m p f (now (b .entry)) (now (b .exit)) ⌝ }
 {
-    put_number(b, 0, m);
-    put_number(b, 2, p);
-    put_number(b, 4, f);
-    put_number(b, 6, 0);
-    put_number(b, 8, HEADER);
-    put_number(b, 10, HEADER + RECORD * m);
-    put_number(b, 12, HEADER + RECORD * (m + p));
-    put_number(b, 14, HEADER + RECORD * (m + p + f));
+    put_four(b, 0, m, p, f, 0);
+    let first = HEADER + RECORD * m;
+    let second = first + RECORD * p;
+    put_four(b, 8, HEADER, first, second, second + RECORD * f);
 }
 
 // The header where the kind has n records.
