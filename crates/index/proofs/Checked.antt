@@ -35,7 +35,7 @@ four-letters Membership = omega arith
 four-letters Permission = omega arith
 four-letters Filter = omega arith
 
--- ---- four counts by their sum
+-- ---- four counts as one number
 
 module _ (b : List ℕ) (i s : ℕ) where
   some : 0 < fourAt b i s → (j : ℕ) × (j < 4) × (0 < countAt b i (s + j))
@@ -61,11 +61,8 @@ module _ (b : List ℕ) (i s : ℕ) where
   four-none e k l h = let q : s + (k - s) ≡ k = omega arith in rw q at (none e (k - s) (omega arith))
 
 module _ (b : List ℕ) (i : ℕ) where
-  pub counted-of : 0 < fourAt b i 0 + fourAt b i 4 → Counted b i
-  counted-of h =
-      ⊎-elim (λ p. let w = some b i 4 p in (4 + w .0, omega (arith, w .1), w .2))
-      (λ p. let w = some b i 0 (omega arith) in (0 + w .0, omega (arith, w .1), w .2))
-      (lt-or-le 0 (fourAt b i 4))
+  pub counted-of : (s : ℕ) → s ≤ 4 → 0 < fourAt b i s → Counted b i
+  counted-of s l h = let w = some b i s h in (s + w .0, omega (arith, w .1), w .2)
 
   pub small-none : fourAt b i 4 ≡ 0 → (k : ℕ) → 4 ≤ k → countAt b i k ≡ 0
   small-none e k l = ⊎-elim (λ h. four-none b i 4 e k l h) (λ h. count-out b i k h) (lt-or-le k letterCount)

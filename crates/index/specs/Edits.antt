@@ -16,9 +16,10 @@ use Rattle.index.specs.Message.{flags, Half, halfAt, WellFormed, Masked,
 use Rattle.index.specs.Message.Change.{take, add}
 use Rattle.index.specs.Places.{spot, At, Gap}
 
--- The sum of the counts of the four letters from k on.
+-- The counts of the four letters from k on, as one number.
 abbrev pub fourAt : List ℕ → ℕ → ℕ → ℕ
-fourAt b i k = countAt b i k + countAt b i (k + 1) + countAt b i (k + 2) + countAt b i (k + 3)
+fourAt b i k =
+    countAt b i k + 65536 * (countAt b i (k + 1) + 65536 * (countAt b i (k + 2) + 65536 * countAt b i (k + 3)))
 
 -- The records of the kind stand below `want` before number r, and not from there on.
 pub record Lowest (b : List ℕ) (kind : Kind) (want r : ℕ) : Type 0 where

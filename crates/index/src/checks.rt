@@ -24,6 +24,9 @@ ghost use Rattle.index.specs.Checks.{Says, Header, Record, Part, Zero};
 ghost use Rattle.index.specs.Calls.{blockNeeds};
 ghost use Rattle.index.specs.Numbers.{Answers};
 
+// Counts are the numbers below this one.
+const COUNTS: usize = 65536;
+
 // The header agrees with the parts, and the parts fit in the block.
 fn header_good(b: &[u8]) -> bool
     requires { ⌜ headerLength ≤ length (now b) ⌝ }
@@ -58,12 +61,13 @@ fn header_good(b: &[u8]) -> bool
     true
 }
 
-// The sum of the counts of the four letters from k on in record i.
+// The counts of the four letters from k on in record i, as one number: the eight bytes are looked at in one go.
 fn four_at(b: &[u8], i: usize, k: usize) -> usize
     requires { ⌜ (place (i + 1) ≤ length (now b)) × (k + 4 ≤ letterCount) ⌝ }
-    ensures { λ r. ⌜ (r ≡ fourAt (now (b .entry)) i k) × (r < 262144) ⌝ }
+    ensures { λ r. ⌜ r ≡ fourAt (now (b .entry)) i k ⌝ }
 {
-    count_at(b, i, k) + count_at(b, i, k + 1) + count_at(b, i, k + 2) + count_at(b, i, k + 3)
+    let high = count_at(b, i, k + 2) + COUNTS * count_at(b, i, k + 3);
+    count_at(b, i, k) + COUNTS * (count_at(b, i, k + 1) + COUNTS * high)
 }
 
 // Record i by itself, as one of the kind.
@@ -77,12 +81,10 @@ fn record_good(b: &[u8], kind: Kind, i: usize) -> bool
     if id_at(b, i) >= NAMES {
         return false;
     }
-    let capital = four_at(b, i, 0);
-    let small = four_at(b, i, 4);
-    if capital + small == 0 {
-        return false;
-    }
-    if small == 0 {
+    if four_at(b, i, 4) == 0 {
+        if four_at(b, i, 0) == 0 {
+            return false;
+        }
         return true;
     }
     if letters_of(kind) < LETTER_COUNT {

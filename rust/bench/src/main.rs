@@ -1,7 +1,7 @@
 //! Times the library beside the plain program, in one run, and prints ratios: bench.
 //!
 //! Each figure is the median over several rounds of some milliseconds; in a round both programs do the same calls on copies of
-//! the same block, the library first in every other round. Buffers are warm: each call works on what the call before left.
+//! the same block, in turn. Buffers are warm: each call works on what the call before left.
 
 use second::gen::Rng;
 use std::hint::black_box;
@@ -76,25 +76,24 @@ fn median(mut values: Vec<f64>) -> f64 {
     values[values.len() / 2]
 }
 
-/// The time of a library call and the plain program's, as medians.
-fn both(mut library: impl FnMut(usize), mut rust: impl FnMut(usize)) -> (f64, f64) {
-    seconds(GROUP, &mut library);
-    let times = GROUP * (LONG / (GROUP as f64 * seconds(GROUP, &mut rust))).ceil() as usize;
-    let (mut ours, mut theirs) = (Vec::new(), Vec::new());
+/// How many times as long the first call takes as the second, and how long the second takes. The two are timed in turn, so that
+/// a machine that changes its pace changes both; the first figure is the median of the rounds' own ratios.
+fn both(mut one: impl FnMut(usize), mut other: impl FnMut(usize)) -> (f64, f64) {
+    seconds(GROUP, &mut one);
+    let times = GROUP * (LONG / (GROUP as f64 * seconds(GROUP, &mut other))).ceil() as usize;
+    let (mut ratios, mut others) = (Vec::new(), Vec::new());
     for round in 0..ROUNDS {
-        if round % 2 == 0 {
-            ours.push(seconds(times, &mut library));
-            theirs.push(seconds(times, &mut rust));
-        } else {
-            theirs.push(seconds(times, &mut rust));
-            ours.push(seconds(times, &mut library));
-        }
+        let early = if round % 2 == 0 { seconds(times, &mut one) } else { 0.0 };
+        let theirs = seconds(times, &mut other);
+        let ours = if round % 2 == 0 { early } else { seconds(times, &mut one) };
+        ratios.push(ours / theirs);
+        others.push(theirs);
     }
-    (median(ours), median(theirs))
+    (median(ratios), median(others))
 }
 
-fn row(what: &str, (ours, theirs): (f64, f64)) {
-    println!("| {what} | {:.2} | {:.2} µs |", ours / theirs, theirs * 1e6);
+fn row(what: &str, (ratio, theirs): (f64, f64)) {
+    println!("| {what} | {ratio:.2} | {:.2} µs |", theirs * 1e6);
 }
 
 fn measure(name: &str, b: &[u8]) {
@@ -194,15 +193,14 @@ fn large_set() {
 /// How the time of a question grows with the number of memberships.
 fn growth() {
     println!("\nThe full question by memberships (200 grants), as multiples of the question with none\n\n| memberships | library | Rust |\n|---|---|---|");
-    let mut base = None;
-    for memberships in [0, 250, 500, 1000, 1800] {
+    let none = block(0, 200, 20, 10);
+    let library = |b: &[u8], n: usize| discard(black_box(unsafe { anaqsiro_rights(b.as_ptr(), b.len(), 200 + 9 * (n as u64 % 60), 1 + n as u64 % 60, 15) }));
+    let rust = |b: &[u8], n: usize| discard(black_box(plain::rights(b, 200 + 9 * (n as u64 % 60), 1 + n as u64 % 60, 15)));
+    for memberships in [250, 500, 1000, 1800] {
         let b = block(memberships, 200, 20, 10);
-        let (ours, theirs) = both(
-            |n| discard(black_box(unsafe { anaqsiro_rights(b.as_ptr(), b.len(), 200 + 9 * (n as u64 % 60), 1 + n as u64 % 60, 15) })),
-            |n| discard(black_box(plain::rights(&b, 200 + 9 * (n as u64 % 60), 1 + n as u64 % 60, 15))),
-        );
-        let (first, second) = *base.get_or_insert((ours, theirs));
-        println!("| {memberships} | {:.1} | {:.1} |", ours / first, theirs / second);
+        let (ours, _) = both(|n| library(&b, n), |n| library(&none, n));
+        let (theirs, _) = both(|n| rust(&b, n), |n| rust(&none, n));
+        println!("| {memberships} | {ours:.1} | {theirs:.1} |");
     }
 }
 

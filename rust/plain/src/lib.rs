@@ -1,5 +1,6 @@
 //! The same rules as a straightforward fast program on the bytes of the block: what the library is timed against. It works
-//! in place, searches by halves, moves bytes with `copy_within`, and keeps marks in arrays.
+//! in place, searches by halves, moves bytes with `copy_within`, takes the memberships out of the block once for each question,
+//! and keeps marks in arrays.
 
 const HEADER: usize = 16;
 const RECORD: usize = 20;
@@ -8,6 +9,10 @@ const LETTERS: [u8; 8] = *b"MRUPmrup";
 
 fn word(b: &[u8], at: usize) -> usize {
     usize::from(u16::from_le_bytes([b[at], b[at + 1]]))
+}
+
+fn four_words(b: &[u8], at: usize) -> u64 {
+    u64::from_le_bytes(b[at..at + 8].try_into().expect("eight bytes"))
 }
 
 fn put_word(b: &mut [u8], at: usize, n: usize) {
@@ -39,15 +44,15 @@ pub fn tested(b: &[u8]) -> u32 {
         return 2;
     }
     for kind in 0..3 {
-        let mut last = None;
+        let mut least = 0;
         for record in b[place(at[kind])..place(at[kind + 1])].chunks_exact(RECORD) {
             let (key, id) = (word(record, 0), word(record, 2));
-            if key > 1023 || id > 1023 || last >= Some((key, id)) {
+            let spot = key << 10 | id;
+            if key > 1023 || id > 1023 || spot < least {
                 return 2;
             }
-            last = Some((key, id));
-            let capitals = record[4..12].iter().fold(0, |a, &c| a | c);
-            let smalls = record[12..].iter().fold(0, |a, &c| a | c);
+            least = spot + 1;
+            let (capitals, smalls) = (four_words(record, 4), four_words(record, 12));
             if capitals | smalls == 0 || (kind != 1 && smalls != 0) {
                 return 2;
             }
@@ -196,14 +201,19 @@ fn net(b: &[u8], i: usize) -> u8 {
     mask & !(mask >> 4) & 15
 }
 
-fn side(b: &[u8], nets: &[u8], start: usize) -> [u8; 1024] {
+/// The key, the id and the net mask of each M record.
+fn links(b: &[u8]) -> Vec<(u16, u16, u8)> {
+    (0..bounds(b)[1]).map(|i| (word(b, place(i)) as u16, word(b, place(i) + 2) as u16, net(b, i))).collect()
+}
+
+fn side(links: &[(u16, u16, u8)], start: usize) -> [u8; 1024] {
     let mut marks = [0u8; 1024];
     marks[start] = 15;
     for _ in 0..32 {
         let before = marks;
         let mut grew = 0;
-        for (i, &net) in nets.iter().enumerate() {
-            let (key, id) = (word(b, place(i)), word(b, place(i) + 2));
+        for &(key, id, net) in links {
+            let (key, id) = (usize::from(key), usize::from(id));
             let more = before[key] & net & !marks[id];
             marks[id] |= more;
             grew |= more;
@@ -239,9 +249,9 @@ fn question(b: &[u8], user: u64, object: u64, request: u64) -> Result<u8, u32> {
         return Err(5);
     }
     let (request, at) = (request as u8, bounds(b));
-    let nets: Vec<u8> = (0..at[1]).map(|i| net(b, i)).collect();
-    let users = side(b, &nets, user as usize);
-    let mut objects = side(b, &nets, object as usize);
+    let links = links(b);
+    let users = side(&links, user as usize);
+    let mut objects = side(&links, object as usize);
     objects[0] = 15;
     let limit = filter(b, object as usize) & request;
     let mut held = 0;

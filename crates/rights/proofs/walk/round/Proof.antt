@@ -1,29 +1,24 @@
 -- `walk::round` meets its contract. The loop's invariant: what the first i records bring.
 use Prim.Native.Nat.{ℕ, _-_, _<_, _≤_}
 use mathlib.Core.Path.{_≡_, sym, subst, ap, _∙_}
-use mathlib.Core.Bool.{Bool, true, false}
-use mathlib.Core.Logic.{⊎-elim}
 use native.Mathlib.Omega.{arith}
 use borrow.Author.Needs.{needs}
-use lib.Dec.{T}
+use borrow.Author.Tests.{eqb-true, not-false}
 use lib.ListN.{length, getD, length-set}
 use Rattle.index.specs.declared.Kind.the-variants.{Membership}
 use Rattle.index.specs.Block.{size, Of}
 use Rattle.index.proofs.Records.{of-records}
 use Rattle.rights.proofs.ByNumber.{key-name, id-name}
-use Rattle.rights.proofs.Rounding.{Upto, upto-none, upto-set, upto-same, upto-all}
+use Rattle.rights.proofs.Rounding.{Upto, upto-none, upto-set, none-grown, upto-all}
 use Rattle.rights.proofs.walk.round.Statement.{statement}
 use Rattle.rights.proofs.walk.round.Tie as tie
 
 abbrev Inv-loop : tie.InvT-loop
-Inv-loop block nets from to₀ m changed₀ i₀ to changed i =
-    (i ≤ m) × (m ≡ size block Membership) × (length to ≡ 1024) × Upto block from i to × (changed ≡ false → to ≡ from)
+Inv-loop block nets from to₀ m grown₀ i₀ to grown i =
+    (i ≤ m) × (m ≡ size block Membership) × (length to ≡ 1024) × Upto block from i to × (grown ≡ 0 → to ≡ from)
 
 abbrev μ-loop : tie.MeasureT-loop
-μ-loop block nets from to₀ m changed₀ i₀ to changed i = m - i
-
-false-true : {t : Bool} → t ≡ false → t ≡ true → ⊥
-false-true p q = let z : false ≡ true = sym p ∙ q in absurd (subst (λ (t : Bool). T t) (sym z) tt)
+μ-loop block nets from to₀ m grown₀ i₀ to grown i = m - i
 
 loop-holds : tie.Need-loop-holds Inv-loop μ-loop
 loop-holds c =
@@ -62,39 +57,25 @@ shared-slice-read-new c =
     omega (arith, at .before .key-of .ensures, start at .pre .1 .0 .names, key-name (start at .pre .0 .0) Membership (of at))
 
 slice-write-to : tie.Need-slice-write-to Inv-loop μ-loop
-slice-write-to c = omega (arith, y-in (c .before .before .before .before))
+slice-write-to c = omega (arith, y-in (c .before .before .before))
 
 loop-again : tie.Need-loop-again Inv-loop μ-loop
 loop-again c =
-    let at = c .before .before .before .before in
+    let at = c .before .before .before in
     let b = start at .args .block .now in
     let ms = start at .args .from .now in
-    let loop = c .before .before .before .before .before .before .before .loop in
+    let loop = at .before .before .before .loop in
     let i = loop .i in
-    let to = loop .to in
     let net = getD (start at .args .nets .now) i 0 in
-    let x = at .before .key-of .result in
-    let y = at .id-of .result in
-    let is-key = at .before .key-of .ensures in
-    let is-id = at .id-of .ensures in
     let told = start at .pre .0 .1 .each i (of-records Membership b i (of at)) in
-    let small = y-in at in
-    ⊎-elim
-    (λ w. (
+    let small = y-in at in (
       omega arith,
       loop .inv .1,
-      rw (w .1) (simp length-set (loop .inv .2)),
-      rw (w .1) (upto-set b ms to i net told (loop .inv .3) x y is-key is-id (omega arith)),
-      λ e. absurd (false-true e (w .2)),
-    ))
-    (λ w. (
-      omega arith,
-      loop .inv .1,
-      rw (w .1) (loop .inv .2),
-      rw (w .1) (upto-same b ms to i net told (loop .inv .3) x y is-key is-id (w .0 .left)),
-      λ e. w .1 ∙ loop .inv .4 (sym (w .2) ∙ e),
-    ))
-    (c .if1 .came)
+      simp length-set (loop .inv .2),
+      upto-set b ms (loop .to) i net told (loop .inv .3) (at .before .key-of .result) (at .id-of .result) (at .before .key-of .ensures)
+          (at .id-of .ensures) (omega arith),
+      λ e. let w = none-grown (loop .to) (at .id-of .result) _ (loop .grown) e in w .1 ∙ loop .inv .4 (w .0),
+    )
 
 same-length : tie.Need-same-length Inv-loop μ-loop
 same-length c =
@@ -108,7 +89,7 @@ returns c =
     let ms = start .args .from .now in
     let loop = c .before .loop in
     let all : loop .i ≡ size b Membership = omega arith in
-    (upto-all (start .pre .0 .0) ms (loop .to) (subst (λ (n : ℕ). Upto b ms n (loop .to)) all (loop .inv .3)), loop .inv .4)
+    (upto-all (start .pre .0 .0) ms (loop .to) (subst (λ (n : ℕ). Upto b ms n (loop .to)) all (loop .inv .3)), λ e. loop .inv .4 (eqb-true (loop .grown) 0 (not-false _ e)))
 
 pub round-spec : {M : Type 1} → statement M
 round-spec =
