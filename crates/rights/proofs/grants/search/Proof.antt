@@ -1,5 +1,5 @@
--- `grants::search` meets its contract. The loops' invariants: what the P records up to the cursor grant; the records that
--- the inner loop sees are of one object.
+-- `grants::search` meets its contract. The loops' invariants: what the P records before the one at hand grant; the records
+-- that the inner loop sees are of one object.
 use Prim.Native.Nat.{_+_, _-_, _<_, _≤_}
 use mathlib.Core.Path.{_≡_, refl, sym, _∙_}
 use mathlib.Core.Logic.{⊎-elim}
