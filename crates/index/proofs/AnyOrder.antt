@@ -1,33 +1,39 @@
 -- Demand 3, first half: the order of accepted messages does not matter.
 use Prim.Native.Nat.{ℕ, _+_, _<_}
 use native.Mathlib.Omega.{arith}
-use mathlib.Core.Path.{_≡_, refl, sym, _∙_, ap, ap₂}
-use mathlib.Core.List.{List, [], _∷_, List·Permᴰ}
+use mathlib.Core.Path.{_≡_, refl, sym, _∙_, ap, ap₂, subst}
+use mathlib.Core.List.{List, [], _∷_, map, List·Permᴰ, Permᴰ·map}
 use mathlib.Core.List.List·Permᴰ.{List·Permᴰ·nil, List·Permᴰ·cons, List·Permᴰ·swap, List·Permᴰ·trans}
 use lib.ListN.{length}
 use Rattle.index.specs.declared.Kind.{Kind}
 use Rattle.index.specs.Block.{Good, count}
 use Rattle.index.specs.Message.{Change, taken, added, Changed, Carried}
-use Rattle.index.specs.Message.{changes}
-use Rattle.index.specs.Calls.{Message}
+use Rattle.index.specs.Message.{steps}
 use Rattle.index.specs.Letters.{letterCount}
-use Rattle.index.specs.History.{Accepted}
+use Rattle.index.specs.Listed.{changesIn}
+use Rattle.index.specs.Calls.{blockNeeds, listNeeds, CarriesOut}
+use Rattle.index.specs.History.{Sent, previousOf, newOf, Outcome, Accepted}
+use Rattle.index.specs.History.Sent.{plain}
 use Rattle.index.specs.History.Accepted.{nothing, next}
 use Rattle.index.proofs.Canonical.{canonical}
-use Rattle.index.proofs.OneMessage.{run-cases, message-cases}
+use Rattle.index.proofs.Firsts.{first-passed}
+use Rattle.index.proofs.OneMessage.{run-cases, sent-cases}
 
 abbrev pub sum : (Change → ℕ) → List Change → ℕ
 sum f [] = 0
 sum f (c ∷ cs) = f c + sum f cs
 
-abbrev total : (Change → ℕ) → List (List ℕ) → ℕ
-total f [] = 0
-total f (m ∷ ms) = sum f (changes m) + total f ms
+abbrev pub stepsOf : Sent → List Change
+stepsOf m = steps (previousOf m) (newOf m)
 
-total-perm : (f : Change → ℕ) {ms ms′ : List (List ℕ)} → List·Permᴰ ms ms′ → total f ms ≡ total f ms′
+abbrev total : (Change → ℕ) → List Sent → ℕ
+total f [] = 0
+total f (m ∷ ms) = sum f (stepsOf m) + total f ms
+
+total-perm : (f : Change → ℕ) {ms ms′ : List Sent} → List·Permᴰ ms ms′ → total f ms ≡ total f ms′
 total-perm f List·Permᴰ·nil = refl
-total-perm f (List·Permᴰ·cons e p) = ap₂ (λ m n. sum f (changes m) + n) e (total-perm f p)
-total-perm f (List·Permᴰ·swap e₁ e₂) = omega (arith, ap (λ m. sum f (changes m)) e₁, ap (λ m. sum f (changes m)) e₂)
+total-perm f (List·Permᴰ·cons e p) = ap₂ (λ m n. sum f (stepsOf m) + n) e (total-perm f p)
+total-perm f (List·Permᴰ·swap e₁ e₂) = omega (arith, ap (λ m. sum f (stepsOf m)) e₁, ap (λ m. sum f (stepsOf m)) e₂)
 total-perm f (List·Permᴰ·trans p q) = total-perm f p ∙ total-perm f q
 
 abbrev pub down : Kind → ℕ → ℕ → ℕ → Change → ℕ
@@ -43,10 +49,9 @@ pub record Balanced (cs : List Change) (b b′ : List ℕ) : Type 0 where
   pub counts : (kind : Kind) (x y k : ℕ) → k < letterCount
       → count b′ kind x y k + sum (down kind x y k) cs ≡ count b kind x y k + sum (up kind x y k) cs
 
-pub balance : (b m b′ : List ℕ) → Message b m (0, b′) → Balanced (changes m) b b′
-balance b m b′ h =
-    message-cases b m (λ o. o .0 ≡ 0 → Balanced (changes m) b (o .1)) (λ n l z. absurd (omega arith))
-    (run-cases (λ _ cs b o. o .0 ≡ 0 → Balanced cs b (o .1)) b (λ cs c n l z. absurd (omega arith))
+pub run-balance : (b : List ℕ) (cs : List Change) (b′ : List ℕ) → Carried b cs b (0, b′) → Balanced cs b b′
+run-balance b cs b′ h =
+    run-cases (λ _ cs b o. o .0 ≡ 0 → Balanced cs b (o .1)) b (λ cs c n l z. absurd (omega arith))
     (λ c z. record { good = λ g. g; same-length = refl; counts = λ kind x y k l. refl })
     (λ c cs b b₁ o d p z. let q = p z in
     record {
@@ -54,16 +59,27 @@ balance b m b′ h =
       same-length = q .same-length ∙ d .same-length;
       counts = λ kind x y k l. omega (arith, q .counts kind x y k l, d .counts kind x y k l);
     })
-    (changes m) b)
-    (0, b′) h refl
+    cs b (0, b′) h refl
 
-record All (ms : List (List ℕ)) (b b′ : List ℕ) : Type 0 where
+pub balance : (b : List ℕ) (m : Sent) (b′ : List ℕ) → Outcome b m (0, b′) → Balanced (stepsOf m) b b′
+balance b m b′ h =
+    sent-cases b m (λ o. o .0 ≡ 0 → Balanced (stepsOf m) b (o .1)) (λ n l z. absurd (omega arith))
+    (λ o p z. run-balance b (stepsOf m) (o .1) (subst (λ (n : ℕ). Carried b (stepsOf m) b (n, o .1)) z p)) (0, b′) h refl
+
+-- The same of a list of changes from a crate above.
+pub list-balance : (b cs b′ : List ℕ) → CarriesOut b cs (0, b′) → Balanced (changesIn cs) b b′
+unfolding CarriesOut listNeeds blockNeeds
+list-balance b cs b′ h =
+    run-balance b (changesIn cs) b′
+    (first-passed (λ n. (n, b)) (Carried b (changesIn cs) b) (0, b′) (λ o. o .0) (λ n. refl) (listNeeds b cs) (omega arith) refl h .1)
+
+record All (ms : List Sent) (b b′ : List ℕ) : Type 0 where
   good : Good b → Good b′
   same-length : length b′ ≡ length b
   counts : (kind : Kind) (x y k : ℕ) → k < letterCount
       → count b′ kind x y k + total (down kind x y k) ms ≡ count b kind x y k + total (up kind x y k) ms
 
-all : {b b′ : List ℕ} {ms : List (List ℕ)} → Accepted b ms b′ → All ms b b′
+all : {b b′ : List ℕ} {ms : List Sent} → Accepted b ms b′ → All ms b b′
 all nothing = record { good = λ g. g; same-length = refl; counts = λ kind x y k l. refl }
 all (next {b} {b₁} {m = m} h p) =
     let d = balance b m b₁ h in
@@ -76,7 +92,7 @@ all (next {b} {b₁} {m = m} h p) =
 
 -- "Take any good block and any list of messages. If two orders of that list are both accepted without a refusal, the two
 -- blocks end equal, byte for byte."
-pub any-order : {b b₁ b₂ : List ℕ} {ms ms′ : List (List ℕ)} → Good b → List·Permᴰ ms ms′
+pub any-order : {b b₁ b₂ : List ℕ} {ms ms′ : List Sent} → Good b → List·Permᴰ ms ms′
     → Accepted b ms b₁ → Accepted b ms′ b₂ → b₁ ≡ b₂
 any-order g p s t =
     let u = all s in
@@ -90,3 +106,8 @@ any-order g p s t =
       total-perm (up kind x y k) p,
     ))
     (u .same-length ∙ sym (v .same-length))
+
+-- Plain messages only.
+pub any-order-plain : {b b₁ b₂ : List ℕ} (ms ms′ : List (List ℕ)) → Good b → List·Permᴰ ms ms′
+    → Accepted b (map plain ms) b₁ → Accepted b (map plain ms′) b₂ → b₁ ≡ b₂
+any-order-plain ms ms′ g p s t = any-order g (Permᴰ·map plain p) s t

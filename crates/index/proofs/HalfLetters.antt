@@ -71,7 +71,7 @@ moves-own : (h : Half) (k : ℕ) → moves h (h .kind) (h .key) (h .id) k ≡ bi
 unfolding moves
 moves-own h k = simp (eq-eqb (kindNumber (h .kind)) (kindNumber (h .kind)) refl, eq-eqb (h .key) (h .key) refl, eq-eqb (h .id) (h .id) refl)
 
-moves-none : (h : Half) (kind : Kind) (x y k : ℕ) → (Hits h kind x y → ⊥) → moves h kind x y k ≡ 0
+pub moves-none : (h : Half) (kind : Kind) (x y k : ℕ) → (Hits h kind x y → ⊥) → moves h kind x y k ≡ 0
 unfolding moves
 moves-none h kind x y k n = go (eqb (kindNumber (h .kind)) (kindNumber kind)) (eqb (h .key) x) (eqb (h .id) y) refl refl refl
   where

@@ -10,7 +10,7 @@ use Rattle.index.specs.Message.{flags, Half, halfAt, previous, new, Well
 use Rattle.index.specs.Message.Change.{take, add}
 use Rattle.index.specs.Calls.{blockNeeds, messageNeeds}
 use Rattle.index.specs.Edits.{Ready, Tested}
-use Rattle.index.proofs.Firsts.{All, passed, answers-first, answers-next}
+use Rattle.index.proofs.Firsts.{All, passed, answers-next}
 use Rattle.index.proofs.Range.{lt-or-le}
 
 module _ (m : List ℕ) where
@@ -67,13 +67,10 @@ abbrev pub ownNeeds : List ℕ → List (ℕ × Type 0)
 ownNeeds m =
     (3, WellFormed m) ∷ (4, Each Named (previous m ++ new m)) ∷ (5, Each Masked (previous m ++ new m)) ∷ []
 
-pub needs-early : (b m : List ℕ) {r : ℕ} → (r ≡ 0 → ⊥) → Answers (blockNeeds b) r → Answers (messageNeeds b m) r
-unfolding messageNeeds
-needs-early b m n a = answers-first (blockNeeds b) (ownNeeds m) n a
-
-pub needs-late : (b m : List ℕ) {n : ℕ} (r : ℕ) → n ≡ 0 → Answers (blockNeeds b) n → Answers (ownNeeds m) r → Answers (messageNeeds b m) r
-unfolding messageNeeds
-needs-late b m r e p a = answers-next (blockNeeds b) (ownNeeds m) r (block-passed b e p) a
+-- The tests of the block come first, whatever follows.
+pub block-late : (b : List ℕ) (ts : List (ℕ × Type 0)) {n : ℕ} (r : ℕ) → n ≡ 0 → Answers (blockNeeds b) n → Answers ts r
+    → Answers (blockNeeds b ++ ts) r
+block-late b ts r e p a = answers-next (blockNeeds b) ts r (block-passed b e p) a
 
 module _ (b m : List ℕ) {r : ℕ} (e : r ≡ 0) (a : Answers (messageNeeds b m) r) where
   pub message-passed : All (messageNeeds b m)

@@ -20,6 +20,7 @@ pub mod HalfLetters
 pub mod Halves
 pub mod IsSet
 pub mod Joining
+pub mod ListTests
 pub mod Masks
 pub mod MessageTest
 pub mod MillHistory
@@ -28,6 +29,8 @@ pub mod OneDoor
 pub mod OneFirst
 pub mod OneMessage
 pub mod OneSet
+pub mod Packing
+pub mod Pairs
 pub mod Range
 pub mod ReadLetters
 pub mod ReadNumbers

@@ -12,6 +12,7 @@ use Rattle.index.specs.Block.{number, Sized, room, countAt, countFrom, c
 use Rattle.index.specs.Message.{kindOf, kindNumber, flags, halfAt, previous, new, changes, moves, taken, added, standing}
 use Rattle.index.specs.Calls.{Makes, makeNeeds, Message}
 use Rattle.index.specs.History.{Labelled, Statement, left, others, after, History}
+use Rattle.index.specs.History.Sent.{plain}
 use Rattle.index.specs.History.History.{nothing, accepted, refused}
 use Rattle.index.proofs.GoodTest.{goodTest, good-test}
 use Rattle.index.proofs.MessageTest.{messageTest, message-test}
@@ -33,7 +34,7 @@ abbrev pub withdraw : List ℕ
 withdraw = 2 ∷ 1 ∷ 9 ∷ 0 ∷ 1 ∷ 0 ∷ 2 ∷ 0 ∷ 0 ∷ 0 ∷ 0 ∷ 0 ∷ []
 
 abbrev pub by : ℕ → List ℕ → Labelled
-by l m = record { label = l; bytes = m }
+by l m = record { label = l; sent = plain m }
 
 -- "It makes an empty index block": what make leaves of any 36 bytes.
 pub made : (b : List ℕ) → length b ≡ 36 → Makes b (0, empty)

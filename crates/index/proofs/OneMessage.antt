@@ -3,8 +3,12 @@ use Prim.Native.Nat.{ℕ, _+_, _<_}
 use native.Mathlib.Omega.{arith}
 use mathlib.Core.Path.{_≡_, sym, _∙_}
 use mathlib.Core.List.{List, [], _∷_, _++_}
-use Rattle.index.specs.Message.{Change, Changed, Carried, changeNeeds, changes}
-use Rattle.index.specs.Calls.{Message, blockNeeds, messageNeeds}
+use Rattle.index.specs.Message.{Change, Changed, Carried, changeNeeds, steps, changes}
+use Rattle.index.specs.Listed.{changesIn}
+use Rattle.index.specs.Wide.{wideChanges}
+use Rattle.index.specs.Calls.{Message, Wide, CarriesOut, blockNeeds, messageNeeds, wideNeeds, listNeeds}
+use Rattle.index.specs.History.{Sent, previousOf, newOf, Outcome}
+use Rattle.index.specs.History.Sent.{plain, wide}
 use Rattle.index.proofs.Canonical.{canonical}
 use Rattle.index.proofs.OneFirst.{one-first, first-cases}
 use Rattle.index.proofs.Firsts.{Positive}
@@ -24,6 +28,10 @@ one-run b₀ (c ∷ cs) b o o′ p q =
 pub one-message : (b m : List ℕ) (o o′ : ℕ × List ℕ) → Message b m o → Message b m o′ → o ≡ o′
 unfolding Message
 one-message b m = one-first (λ n. (n, b)) (messageNeeds b m) (Carried b (changes m) b) (one-run b (changes m) b)
+
+pub one-list : (b cs : List ℕ) (o o′ : ℕ × List ℕ) → CarriesOut b cs o → CarriesOut b cs o′ → o ≡ o′
+unfolding CarriesOut
+one-list b cs = one-first (λ n. (n, b)) (listNeeds b cs) (Carried b (changesIn cs) b) (one-run b (changesIn cs) b)
 
 changes-positive : (c : Change) (b : List ℕ) → Positive (changeNeeds c b)
 unfolding changeNeeds
@@ -46,3 +54,15 @@ pub message-cases : (b m : List ℕ) (P : ℕ × List ℕ → Type 0) → ((n : 
     → ((o : ℕ × List ℕ) → Carried b (changes m) b o → P o) → (o : ℕ × List ℕ) → Message b m o → P o
 unfolding Message messageNeeds blockNeeds
 message-cases b m P u v = first-cases P (λ n. (n, b)) (Carried b (changes m) b) u v (messageNeeds b m) (omega arith)
+
+-- The same of whatever is sent.
+pub sent-cases : (b : List ℕ) (m : Sent) (P : ℕ × List ℕ → Type 0) → ((n : ℕ) → 0 < n → P (n, b))
+    → ((o : ℕ × List ℕ) → Carried b (steps (previousOf m) (newOf m)) b o → P o) → (o : ℕ × List ℕ) → Outcome b m o → P o
+unfolding changes wideChanges Wide wideNeeds blockNeeds
+sent-cases b (plain m) P u v = message-cases b m P u v
+sent-cases b (wide m) P u v = first-cases P (λ n. (n, b)) (Carried b (wideChanges m) b) u v (wideNeeds b m) (omega arith)
+
+pub one-sent : (b : List ℕ) (m : Sent) (o o′ : ℕ × List ℕ) → Outcome b m o → Outcome b m o′ → o ≡ o′
+unfolding Wide
+one-sent b (plain m) = one-message b m
+one-sent b (wide m) = one-first (λ n. (n, b)) (wideNeeds b m) (Carried b (wideChanges m) b) (one-run b (wideChanges m) b)

@@ -1,22 +1,27 @@
--- The changes of a message, one after the other, and the way back.
-use Prim.Native.Nat.{ℕ, _-_, _/_, _<_}
-use mathlib.Core.Path.{_≡_, refl, _∙_, ap}
+-- Changes one after the other, and the way back.
+use Prim.Native.Nat.{ℕ, suc, _+_, _-_, _/_, _%_, _<_, _≤_}
+use mathlib.Core.Path.{_≡_, refl, sym, _∙_, ap, subst}
 use mathlib.Core.List.{List, [], _∷_}
 use mathlib.Core.Logic.{_⊎_, inl, inr, ⊎-elim}
 use native.Mathlib.Omega.{arith}
-use lib.ListN.{length}
+use native.Mathlib.Numerals.{add-one}
+use native.Mathlib.Decide.{ℕ-discrete}
+use lib.ListN.{length, drop, getD}
+use lib.Seq.{drop-cons, drop-length}
 use Rattle.index.specs.declared.Kind.{Kind}
 use Rattle.index.specs.Letters.{letterCount}
 use Rattle.index.specs.Block.{headerLength, recordLength, count, records, room, Good}
 use Rattle.index.specs.Numbers.{Answers}
 use Rattle.index.specs.Message.{Half, Change, Changed, taken, added, standing, changeNeeds, Carried}
 use Rattle.index.specs.Message.Change.{take, add}
-use Rattle.index.specs.Edits.{Ready, Step, TakenAway, Runs}
+use Rattle.index.specs.Listed.{kindIn, halfIn, changeIn, changesIn}
+use Rattle.index.specs.Edits.{Ready, Step, Prepared, Went}
+use Rattle.index.specs.Edits.Went.{nothing, next}
 use Rattle.index.proofs.Bytes.{count-small}
 use Rattle.index.proofs.Canonical.{canonical}
-use Rattle.index.proofs.HalfLetters.{bit-zero, change-own}
+use Rattle.index.proofs.HalfLetters.{bit-zero, halfOf, change-own}
 use Rattle.index.proofs.Firsts.{Positive}
-use Rattle.index.proofs.Firsts.{All, first-map, first-all, first-sure, first-passed, first-refused, refuses}
+use Rattle.index.proofs.Firsts.{All, first-all, first-sure, first-passed, first-refused, refuses}
 use Rattle.index.proofs.Records.{of-records, where-is, count-at, count-none}
 
 -- ---- a change, and a run that begins with it
@@ -30,16 +35,7 @@ positive (take h) b = omega arith
 positive (add h) b = omega arith
 
 module _ {c : Change} {b : List ℕ} {r : ℕ} {b′ : List ℕ} (s : Step c b r b′) where
-  pub run-one : Carried b (c ∷ []) b (r, b′)
-  unfolding Carried
-  run-one =
-      first-map (λ n. (n, b)) (Done c b) (r, b′) _ (changeNeeds c b) (λ a. (b′, a .1, ap (λ (n : ℕ). (n, b′)) (a .0))) (s .outcome)
-
-  pub run-refused : (cs : List Change) → (r ≡ 0 → ⊥) → Carried b (c ∷ cs) b (r, b′)
-  unfolding Carried
-  run-refused cs n = first-map (λ n. (n, b)) (Done c b) (r, b′) _ (changeNeeds c b) (λ a. absurd (n (a .0))) (s .outcome)
-
-  pub step-done : r ≡ 0 → All (changeNeeds c b) × Changed c b b′
+  step-done : r ≡ 0 → All (changeNeeds c b) × Changed c b b′
   step-done e =
       let p = first-passed (λ n. (n, b)) (Done c b) (r, b′) (λ o. o .0) (λ n. refl) (changeNeeds c b) (positive c b) e (s .outcome) in
       (p .0, p .1 .1)
@@ -49,22 +45,30 @@ module _ {c : Change} {b : List ℕ} {r : ℕ} {b′ : List ℕ} (s : Step c b r
       let p = first-refused (λ n. (n, b)) (Done c b) (r, b′) (λ o. o .0) (λ n. refl) (changeNeeds c b) (λ a. a .0) n (s .outcome) in
       (p .0, ap (λ (o : ℕ × List ℕ). o .1) (p .1))
 
-run-next : {c : Change} {b b₁ : List ℕ} (cs : List Change) (b₀ : List ℕ) (o : ℕ × List ℕ) → All (changeNeeds c b) × Changed c b b₁
-    → Carried b₀ cs b₁ o → Carried b₀ (c ∷ cs) b o
-unfolding Carried
-run-next {c} {b} {b₁} cs b₀ o d p = first-all (λ n. (n, b₀)) _ o (changeNeeds c b) (d .0) (b₁, d .1, p)
+  -- Whatever came of it, what is ready is so still.
+  pub still-ready : {h : Half} → Ready h b → Ready h b′
+  still-ready {h} q =
+      elim (ℕ-discrete r 0) [
+        | yes e ↦
+            let d = step-done e .1 in
+            record {
+              short = omega (arith, q .short, d .same-length);
+              good = d .good;
+              key-below = q .key-below;
+              id-below = q .id-below;
+              masked = q .masked;
+            }
+        | no n ↦ rw (step-refused n .1) q
+      ]
 
-pub still-ready : {h : Half} {c : Change} {b b′ : List ℕ} → Ready h b → Changed c b b′ → Ready h b′
-still-ready r d =
-    record {
-      short = omega (arith, r .short, d .same-length);
-      good = d .good;
-      key-below = r .key-below;
-      id-below = r .id-below;
-      masked = r .masked;
-    }
+  pub still-prepared : (cs : List ℕ) → Prepared cs b → Prepared cs b′
+  still-prepared cs p = λ i l. still-ready (p i l)
 
--- ---- what was taken away can be put back, and then the block is what it was
+-- ---- a change that was done can be undone, and then the block is what it was
+
+abbrev back : Change → Change
+back (take h) = add h
+back (add h) = take h
 
 count-below : {b : List ℕ} → Good b → (kind : Kind) (x y k : ℕ) → count b kind x y k < 65536
 count-below {b} g kind x y k =
@@ -72,53 +76,106 @@ count-below {b} g kind x y k =
     (λ n. rw (count-none b kind x y k n) (omega arith))
     (where-is b x y kind)
 
-module _ {h : Half} {b b₁ : List ℕ} {r : ℕ} (ready : Ready h b) (t : TakenAway h b r b₁) (e : r ≡ 0) where
-  changed : Changed (take h) b b₁
-  changed = step-done (t .step) e .1
+-- The half's record is there still, or there is room for it again.
+there : (h : Half) {b b₁ : List ℕ} → Good b → Changed (take h) b b₁
+    → (((k : ℕ) → k < letterCount → standing b₁ h k ≡ 0) → records b₁ < records b)
+    → ((k : ℕ) × (k < letterCount) × (0 < standing b₁ h k)) ⊎ (records b₁ < room b₁)
+unfolding standing room
+there h {b} {b₁} g d freed =
+    ⊎-elim
+    (λ p.
+    let c = d .good .counted (p .0) (of-records (h .kind) b₁ (p .0) (p .1 .of)) in
+    inl (c .0, c .1, rw (count-at (d .good) (h .kind) (h .key) (h .id) (p .0) (c .0) (p .1)) (c .2)))
+    (λ n.
+    inr (omega (arith, freed (λ k l. count-none b₁ (h .kind) (h .key) (h .id) k n), d .same-length, g .fits)))
+    (where-is b₁ (h .key) (h .id) (h .kind))
 
-  back-needs : All (changeNeeds (add h) b₁)
-  unfolding changeNeeds standing room
-  back-needs = (
-    λ k l i.
-        omega
-        (arith, changed .counts (h .kind) (h .key) (h .id) k l, change-own (take h) k, bit-zero k, count-below (ready .good) (h .kind) (h .key) (h .id) k),
-    (there, tt),
-  )
-    where
-      there : ((k : ℕ) × (k < letterCount) × (0 < count b₁ (h .kind) (h .key) (h .id) k)) ⊎ (records b₁ < (length b₁ - headerLength) / recordLength)
-      there =
-          ⊎-elim
-          (λ p.
-          let c = changed .good .counted (p .0) (of-records (h .kind) b₁ (p .0) (p .1 .of)) in
-          inl (c .0, c .1, rw (count-at (changed .good) (h .kind) (h .key) (h .id) (p .0) (c .0) (p .1)) (c .2)))
-          (λ n.
-          inr
-          (omega
-          (arith, t .freed e (λ k l. count-none b₁ (h .kind) (h .key) (h .id) k n), changed .same-length, ready .good .fits)))
-          (where-is b₁ (h .key) (h .id) (h .kind))
+back-needs : (c : Change) {b b₁ : List ℕ} → Good b → Step c b 0 b₁ → All (changeNeeds (back c) b₁)
+unfolding changeNeeds standing
+back-needs (take h) {b} {b₁} g s =
+    let d = step-done s refl .1 in (
+      λ k l i.
+          omega
+          (arith, d .counts (h .kind) (h .key) (h .id) k l, change-own (take h) k, bit-zero k, count-below g (h .kind) (h .key) (h .id) k),
+      (there h g d (s .freed refl), tt),
+    )
+back-needs (add h) {b} {b₁} g s =
+    let d = step-done s refl .1 in
+    (λ k l i. omega (arith, d .counts (h .kind) (h .key) (h .id) k l, change-own (add h) k, bit-zero k), tt)
 
-  back-again : {n : ℕ} {b₂ : List ℕ} → Step (add h) b₁ n b₂ → b₂ ≡ b
-  unfolding taken added
-  back-again {n} {b₂} s =
-      let d = first-sure (λ n. (n, b₁)) (Done (add h) b₁) (n, b₂) (changeNeeds (add h) b₁) back-needs (s .outcome) .1 in
-      canonical (d .good) (ready .good)
-      (λ kind x y k l. omega (arith, d .counts kind x y k l, changed .counts kind x y k l))
-      (d .same-length ∙ changed .same-length)
+back-moves : (c : Change) (kind : Kind) (x y k : ℕ)
+    → (taken (back c) kind x y k ≡ added c kind x y k) × (added (back c) kind x y k ≡ taken c kind x y k)
+unfolding taken added
+back-moves (take h) kind x y k = (refl, refl)
+back-moves (add h) kind x y k = (refl, refl)
 
--- ---- one half away, and another in
+undone : (c : Change) {b b₁ b₂ : List ℕ} {r : ℕ} → Good b → Step c b 0 b₁ → Step (back c) b₁ r b₂ → b₂ ≡ b
+undone c {b} {b₁} {b₂} {r} g s t =
+    let d = step-done s refl .1 in
+    let e = first-sure (λ n. (n, b₁)) (Done (back c) b₁) (r, b₂) (changeNeeds (back c) b₁) (back-needs c g s) (t .outcome) .1 in
+    canonical (e .good) g
+    (λ kind x y k l. omega (arith, d .counts kind x y k l, e .counts kind x y k l, back-moves c kind x y k))
+    (e .same-length ∙ d .same-length)
 
-module _ {h h′ : Half} {b b₁ b₂ : List ℕ} {r s : ℕ} (ready : Ready h b) (t : TakenAway h b r b₁) (e : r ≡ 0) (a : Step (add h′) b₁ s b₂) where
-  pub runs-done : s ≡ 0 → Runs h h′ b (0, b₂)
+-- ---- the changes of a list
+
+-- The numbers of a change and of the one that undoes it.
+pub same-half : (m n : ℕ) → m / 2 ≡ n / 2 → halfIn m ≡ halfIn n
+unfolding halfIn kindIn
+same-half m n e = rw e
+
+opposite : (m n : ℕ) → m / 2 ≡ n / 2 → m % 2 + n % 2 ≡ 1 → changeIn m ≡ back (changeIn n)
+unfolding changeIn
+opposite m n e f =
+    elim (ℕ-discrete (n % 2) 0) [
+      | yes z ↦ let o : m % 2 ≡ 1 = omega arith in rw (z, o, same-half m n e)
+      | no z ↦
+          let o : n % 2 ≡ 1 = omega arith in
+          let p : m % 2 ≡ 0 = omega arith in
+          rw (o, p, same-half m n e)
+    ]
+
+module _ {b₀ cs : List ℕ} where
+  -- What comes of the rest of the list comes of the whole.
+  went-on : {i : ℕ} {b : List ℕ} (o : ℕ × List ℕ) → Went b₀ cs i b → i ≤ length cs → Carried b₀ (changesIn (drop i cs)) b o
+      → Carried b₀ (changesIn cs) b₀ o
   unfolding Carried
-  runs-done z =
-      run-next (add h′ ∷ []) b (0, b₂) (step-done (t .step) e) (run-next [] b (0, b₂) (step-done a z) refl)
+  went-on o nothing l p = p
+  went-on o (next {i} {b} {b′} w _ s) l p =
+      let d = step-done s refl in
+      went-on o w (omega arith)
+      (rw (drop-cons cs i 0 (omega arith)) (first-all (λ n. (n, b₀)) _ o (changeNeeds (changeIn (getD cs i 0)) b) (d .0) (b′, d .1, p)))
 
-  pub same-then : (s ≡ 0 → ⊥) → Ready h b₂
-  same-then n = rw (step-refused a n .1) (still-ready ready (step-done (t .step) e .1))
-
-  pub runs-back : {n : ℕ} {b₃ : List ℕ} → (s ≡ 0 → ⊥) → Step (add h) b₂ n b₃ → Runs h h′ b (s, b₃)
+  pub went-all : {i : ℕ} {b : List ℕ} → Went b₀ cs i b → i ≡ length cs → Carried b₀ (changesIn cs) b₀ (0, b)
   unfolding Carried
-  runs-back ne p =
-      let q = step-refused a ne in
-      let back = back-again ready t e (rw (q .1) at p) in
-      rw back (run-next (add h′ ∷ []) b (s, b) (step-done (t .step) e) (refuses (λ n. (n, b)) _ (changeNeeds (add h′) b₁) ne (q .0)))
+  went-all {i} {b} w e = went-on (0, b) w (omega arith) (rw (e, drop-length cs) refl)
+
+  pub went-refused : {i r : ℕ} {b b₁ : List ℕ} → Went b₀ cs i b → i < length cs → Step (changeIn (getD cs i 0)) b r b₁ → (r ≡ 0 → ⊥)
+      → Carried b₀ (changesIn cs) b₀ (r, b₀)
+  unfolding Carried
+  went-refused {i} {r} {b} w l s n =
+      went-on (r, b₀) w (omega arith)
+      (rw (drop-cons cs i 0 l) (refuses (λ n. (n, b₀)) _ (changeNeeds (changeIn (getD cs i 0)) b) n (step-refused s n .0)))
+
+  -- One more change, and one less.
+  pub went-more : {i r : ℕ} {b b₁ : List ℕ} → Went b₀ cs i b → Ready (halfIn (getD cs i 0)) b → Step (changeIn (getD cs i 0)) b r b₁ → r ≡ 0
+      → Went b₀ cs (i + 1) b₁
+  went-more {i} w q s e = rw add-one (next w q (rw e at s))
+
+  went-last : {i : ℕ} {b : List ℕ} → Went b₀ cs (suc i) b
+      → (b₁ : List ℕ) × Went b₀ cs i b₁ × Good b₁ × Step (changeIn (getD cs i 0)) b₁ 0 b
+  went-last (next {b} w q s) = (b, w, q .good, s)
+
+  pub went-back : {i r : ℕ} {b b₁ : List ℕ} (n : ℕ) → 0 < i → n / 2 ≡ getD cs (i - 1) 0 / 2 → n % 2 + getD cs (i - 1) 0 % 2 ≡ 1
+      → Step (changeIn n) b r b₁ → Went b₀ cs i b → Went b₀ cs (i - 1) b₁
+  went-back {i} {b = b} n l e f s w =
+      let z : i ≡ suc (i - 1) = omega arith in
+      let p = went-last (subst (λ (j : ℕ). Went b₀ cs j b) z w) in
+      rw (undone (changeIn (getD cs (i - 1) 0)) (p .2) (p .3) (rw (opposite n (getD cs (i - 1) 0) e f) at s)) (p .1)
+
+  pub went-none : {i : ℕ} {b : List ℕ} → Went b₀ cs i b → i ≡ 0 → b ≡ b₀
+  went-none nothing e = refl
+  went-none (next w q s) e = absurd (omega arith)
+
+  pub went-same : {i r : ℕ} {b b₁ : List ℕ} {c : Change} → Went b₀ cs i b → Step c b r b₁ → (r ≡ 0 → ⊥) → Went b₀ cs i b₁
+  went-same w s n = rw (step-refused s n .1) w

@@ -1,5 +1,5 @@
 -- Demand 3, second half: from an empty block on, each count is the number of statements standing.
-use Prim.Native.Nat.{ℕ, _+_, _<_, _≤_, _/_, _%_}
+use Prim.Native.Nat.{ℕ, _+_, _<_}
 use native.Mathlib.Omega.{arith}
 use native.Mathlib.Decide.{ℕ-discrete}
 use mathlib.Core.Path.{_≡_, refl, sym, _∙_, ap}
@@ -7,7 +7,6 @@ use mathlib.Core.Bool.{Bool, cond, true, false}
 use mathlib.Core.List.{List, [], _∷_, _++_, map}
 use mathlib.Core.Logic._⊎_.{inl, inr}
 use lib.Dec.{eqb}
-use lib.ListN.{length}
 use borrow.Author.Tests.{eq-eqb, ne-eqb}
 use Rattle.index.specs.declared.Kind.{Kind}
 use Rattle.index.specs.declared.Kind.the-variants.{Membership, Permission, Filter}
@@ -15,12 +14,12 @@ use Rattle.index.specs.Letters.{letterCount}
 use Rattle.index.specs.Block.{size, records, countFrom, count}
 use Rattle.index.specs.Message.{Half, Change, taken, added}
 use Rattle.index.specs.Message.Change.{take, add}
-use Rattle.index.specs.Message.{changes, previous, new, flags, halfAt}
 use Rattle.index.specs.Numbers.{Each}
 use Rattle.index.specs.Calls.{Makes, makeNeeds}
-use Rattle.index.specs.History.{Labelled, Statement, left, others, after, History, movesOf, tally}
+use Rattle.index.specs.History.{Labelled, Statement, previousOf, newOf, left, others, after, History, movesOf, tally}
 use Rattle.index.specs.History.History.{nothing, accepted, refused}
 use Rattle.index.proofs.AnyOrder.{sum, down, up, balance}
+use Rattle.index.proofs.Pairs.{CountsOnce, counts-once}
 
 no-records : (b : List ℕ) → records b ≡ 0 → (kind : Kind) → size b kind ≡ 0
 no-records b z Membership = omega arith
@@ -109,17 +108,9 @@ module _ (kind : Kind) (x y k : ℕ) where
           rw (eq-eqb (e .label) z p, w) (omega arith)
       go (no p) r = rw (ne-eqb (e .label) z p) (omega arith)
 
--- Each statement has one half left or none.
+-- A statement "counts once in each of its pairs": it has each letter of a record once, or not at all.
 abbrev pub Single : List Statement → Type 0
-Single s = Each (λ e. length (e .halves) ≤ 1) s
-
-single-new : (m : List ℕ) → length (new m) ≤ 1
-unfolding new
-single-new m = go (eqb (flags m / 2 % 2) 1)
-  where
-    go : (t : Bool) → length (cond t (halfAt m 7 ∷ []) []) ≤ 1
-    go true = omega arith
-    go false = omega arith
+Single s = Each (λ e. CountsOnce (e .halves)) s
 
 single-others : (z : ℕ) (s : List Statement) → Single s → Single (others z s)
 unfolding others
@@ -130,8 +121,8 @@ single-others z (e ∷ s) o = go (eqb (e .label) z) (single-others z s (o .1))
     go true r = r
     go false r = (o .0, r)
 
--- What demand 3 says of a block and the statements at one moment: each statement stands in the list once, with one half or
--- none, and "each count, 0 for a missing record, equals the number of statements standing at that moment with that record
+-- What demand 3 says of a block and the statements at one moment: each statement stands in the list once, and counts at most
+-- once in a letter of a record, and "each count, 0 for a missing record, equals the number of statements standing at that moment with that record
 -- and that letter".
 pub record Counts (b : List ℕ) (s : List Statement) : Type 0 where
   pub once : Once s
@@ -139,19 +130,19 @@ pub record Counts (b : List ℕ) (s : List Statement) : Type 0 where
   pub counts : (kind : Kind) (x y k : ℕ) → k < letterCount → count b kind x y k ≡ tally s kind x y k
 
 holds : {b b′ : List ℕ} {s s′ : List Statement} {ms : List Labelled} → History b s ms b′ s′ → Counts b s → Counts b′ s′
-unfolding after tally changes
+unfolding after tally
 holds nothing e = e
 holds (accepted {b} {b₁} {s = s} {m = m} h q p) e =
     holds p
     (record {
       once = once-after m s (e .once);
-      single = (single-new (m .bytes), single-others (m .label) s (e .single));
+      single = (counts-once b (m .sent) b₁ h, single-others (m .label) s (e .single));
       counts = λ kind x y k l.
           omega (
             arith,
-            balance b (m .bytes) b₁ h .counts kind x y k l,
-            downs kind x y k (previous (m .bytes)) (new (m .bytes)),
-            ups kind x y k (previous (m .bytes)) (new (m .bytes)),
+            balance b (m .sent) b₁ h .counts kind x y k l,
+            downs kind x y k (previousOf (m .sent)) (newOf (m .sent)),
+            ups kind x y k (previousOf (m .sent)) (newOf (m .sent)),
             ap (λ hs. movesOf hs kind x y k) q,
             apart kind x y k (m .label) s (e .once),
             e .counts kind x y k l,

@@ -14,7 +14,7 @@ use Rattle.index.specs.Checks.{Counted}
 use Rattle.index.specs.Message.{Half, Masked, Changed, standing, changeNeeds}
 use Rattle.index.specs.Message.Change.{take, add}
 use Rattle.index.specs.Places.{At, Gap}
-use Rattle.index.specs.Edits.{bit, Allows, Left, Opens, Recounted, Written, Ready, Step, TakenAway}
+use Rattle.index.specs.Edits.{bit, Allows, Left, Opens, Recounted, Written, Ready, Freed, Step}
 use Rattle.index.proofs.Bytes.{count-small}
 use Rattle.index.proofs.Changes.{gap-none}
 use Rattle.index.proofs.Edited.{recounted-is, removed-is, removed-records, inserted-is}
@@ -55,17 +55,17 @@ module _ (h : Half) {b : List ℕ} {j : ℕ} (g : Good b) (a : At b (h .kind) (h
   pub take-lacks : (Allows b j (h .mask) 0 → ⊥) → Step (take h) b 6 b
   unfolding changeNeeds
   take-lacks n =
-      record { outcome = inl (λ need. n (take-allows need), refl) }
+      record { outcome = inl (λ need. n (take-allows need), refl); freed = λ e. absurd (omega arith) }
 
-  take-done : {b′ : List ℕ} → Allows b j (h .mask) 0 → Changed (take h) b b′ → Step (take h) b 0 b′
+  take-done : {b′ : List ℕ} → Allows b j (h .mask) 0 → Changed (take h) b b′ → Freed (take h) b b′ → Step (take h) b 0 b′
   unfolding changeNeeds
-  take-done w d =
-      record { outcome = inr (λ k l e. omega (arith, w k l .0, stands k, bit-zero k), (refl, d)) }
+  take-done w d f =
+      record { outcome = inr (λ k l e. omega (arith, w k l .0, stands k, bit-zero k), (refl, d)); freed = λ _. f }
 
   pub add-full : (Allows b j 0 (h .mask) → ⊥) → Step (add h) b 7 b
   unfolding changeNeeds
   add-full n =
-      record { outcome = inl (λ need. n (add-allows need), refl) }
+      record { outcome = inl (λ need. n (add-allows need), refl); freed = λ _. tt }
 
   add-raised : {b′ : List ℕ} → Allows b j 0 (h .mask) → Changed (add h) b b′ → Step (add h) b 0 b′
   unfolding changeNeeds
@@ -76,6 +76,7 @@ module _ (h : Half) {b : List ℕ} {j : ℕ} (g : Good b) (a : At b (h .kind) (h
           λ k l e. omega (arith, w k l .1, stands k, bit-zero k),
           inr (inl (c .0, c .1, omega (arith, c .2, stands (c .0))), (refl, d)),
         );
+        freed = λ _. tt;
       }
 
 -- The record is missing.
@@ -88,7 +89,10 @@ module _ (h : Half) {b : List ℕ} {j : ℕ} (gap : Gap b (h .kind) (h .key) (h 
   unfolding changeNeeds Masked
   take-missing m =
       let s = some-letter (h .mask) (m .0) (masked-byte (h .kind) (h .mask) (m .1)) in
-      record { outcome = inl (λ need. omega (arith, need (s .0) (s .1) (s .2), stands-not (s .0)), refl) }
+      record {
+        outcome = inl (λ need. omega (arith, need (s .0) (s .1) (s .2), stands-not (s .0)), refl);
+        freed = λ e. absurd (omega arith);
+      }
 
   pub add-no-room : length b < place (records b) + recordLength → Step (add h) b 8 b
   unfolding changeNeeds room
@@ -98,17 +102,15 @@ module _ (h : Half) {b : List ℕ} {j : ℕ} (gap : Gap b (h .kind) (h .key) (h 
           λ k _ _. omega (arith, stands-not k),
           inl (⊎-elim (λ s. omega (arith, s .2, stands-not (s .0))) (λ r. omega arith), refl),
         );
+        freed = λ _. tt;
       }
 
   add-inserted : {b′ : List ℕ} → place (records b) + recordLength ≤ length b → Changed (add h) b b′ → Step (add h) b 0 b′
   unfolding changeNeeds room
   add-inserted l d =
-      record { outcome = inr (λ k _ _. omega (arith, stands-not k), inr (inr (omega arith), (refl, d))) }
+      record { outcome = inr (λ k _ _. omega (arith, stands-not k), inr (inr (omega arith), (refl, d))); freed = λ _. tt }
 
 -- ---- what a record taken from leaves
-
-pub taken-not : {h : Half} {b : List ℕ} → Step (take h) b 6 b → TakenAway h b 6 b
-taken-not s = record { step = s; freed = λ e. absurd (omega arith) }
 
 module _
     (h : Half)
@@ -118,30 +120,24 @@ module _
     (a : At b (h .kind) (h .key) (h .id) j)
     (w : Allows b j (h .mask) 0)
     (bytes : (t : ℕ) → getD b′ t 0 < 256) where
-  pub taken-lowered : Left b j (h .mask) → Recounted j (h .mask) 0 b b′ → TakenAway h b 0 b′
+  pub taken-lowered : Left b j (h .mask) → Recounted j (h .mask) 0 b b′ → Step (take h) b 0 b′
   unfolding standing
   taken-lowered left d =
       let some : Counted b′ j = (left .0, left .1, omega (arith, left .2, d .counts (left .0) (left .1))) in
       let e = recounted-is (take h) (r .good) a (r .masked) d bytes some in
-      record {
-        step = take-done h (r .good) a w e;
-        freed =
-            λ _ none.
-            let own = change-own (take h) (left .0) in
-            absurd
-            (omega
-            (arith, left .2, none (left .0) (left .1), e .counts (h .kind) (h .key) (h .id) (left .0) (left .1), own, stands h (r .good) a (left .0), bit-zero (left .0)));
-      }
+      take-done h (r .good) a w e
+      (λ none.
+      let own = change-own (take h) (left .0) in
+      absurd
+      (omega
+      (arith, left .2, none (left .0) (left .1), e .counts (h .kind) (h .key) (h .id) (left .0) (left .1), own, stands h (r .good) a (left .0), bit-zero (left .0))))
 
-  pub taken-removed : (Left b j (h .mask) → ⊥) → Spliced (h .kind) j 1 0 b b′ → TakenAway h b 0 b′
+  pub taken-removed : (Left b j (h .mask) → ⊥) → Spliced (h .kind) j 1 0 b b′ → Step (take h) b 0 b′
   taken-removed n s =
       let spent : (k : ℕ) → k < letterCount → countAt b j k ≡ bit (h .mask) k =
       λ k l.
       ⊎-elim (λ q. absurd (n (k, l, q))) (λ q. omega (arith, w k l .0, bit-zero k)) (lt-or-le (bit (h .mask) k) (countAt b j k)) in
-      record {
-        step = take-done h (r .good) a w (removed-is h (r .good) bytes a spent s);
-        freed = λ _ _. omega (arith, removed-records h (r .good) bytes a s);
-      }
+      take-done h (r .good) a w (removed-is h (r .good) bytes a spent s) (λ _. omega (arith, removed-records h (r .good) bytes a s))
 
 -- ---- what a record put into becomes
 

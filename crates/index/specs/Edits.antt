@@ -1,7 +1,9 @@
 -- For proofs only: what the functions on records and halves do.
-use Prim.Native.Nat.{ℕ, _+_, _*_, _/_, _%_, _^_, _<_, _≤_}
+use Prim.Native.Nat.{ℕ, suc, _+_, _*_, _/_, _%_, _^_, _<_, _≤_}
 use mathlib.Core.Path.{_≡_}
+use mathlib.Core.Bool.{Bool, true, false, cond}
 use mathlib.Core.List.{List, [], _∷_}
+use lib.Dec.{eqb}
 use lib.ListN.{length, getD}
 use Rattle.index.specs.declared.Kind.{Kind}
 use Rattle.index.specs.declared.places.Found.{Found}
@@ -12,8 +14,9 @@ use Rattle.index.specs.Block.{IsName, headerLength, greatestLength, reco
 use Rattle.index.specs.Bytes.{Inside}
 use Rattle.index.specs.Checks.{Header}
 use Rattle.index.specs.Numbers.{First}
-use Rattle.index.specs.Message.{flags, Half, halfAt, WellFormed, Masked, Change, Changed, standing, changeNeeds, Carried}
+use Rattle.index.specs.Message.{IsKind, flags, Half, Named, halfAt, WellFormed, Masked, Change, Changed, standing, changeNeeds}
 use Rattle.index.specs.Message.Change.{take, add}
+use Rattle.index.specs.Listed.{kindIn, halfIn, changeIn}
 use Rattle.index.specs.Places.{spot, At, Gap}
 
 -- The counts of the four letters from k on, as one number.
@@ -108,18 +111,35 @@ pub record Ready (h : Half) (b : List ℕ) : Type 0 where
   pub id-below : IsName (h .id)
   pub masked : Masked h
 
+-- Where the record of a half taken away is gone, there is room again.
+abbrev pub Freed : Change → List ℕ → List ℕ → Type 0
+Freed (take h) b b′ = ((k : ℕ) → k < letterCount → standing b′ h k ≡ 0) → records b′ < records b
+Freed (add h) b b′ = Unit {0}
+
 -- One change by itself gives the number r and the block b′.
 pub record Step (c : Change) (b : List ℕ) (r : ℕ) (b′ : List ℕ) : Type 0 where
   pub outcome : First {O = ℕ × List ℕ} (λ n. (n, b)) (changeNeeds c b) (λ o. (o .0 ≡ 0) × Changed c b (o .1)) (r, b′)
+  pub freed : r ≡ 0 → Freed c b b′
 
--- The half was taken away; where its record is gone then, there is room again.
-pub record TakenAway (h : Half) (b : List ℕ) (r : ℕ) (b′ : List ℕ) : Type 0 where
-  pub step : Step (take h) b r b′
-  pub freed : r ≡ 0 → ((k : ℕ) → k < letterCount → standing b′ h k ≡ 0) → records b′ < records b
+-- ---- a list of changes
 
--- The first half is taken away, and the second put in.
-abbrev pub Runs : Half → Half → List ℕ → (ℕ × List ℕ) → Type 0
-Runs h h′ b o = Carried b (take h ∷ add h′ ∷ []) b o
+abbrev pub changeOf : Bool → Half → Change
+changeOf true h = add h
+changeOf false h = take h
+
+-- The change in the number n passes the test of this number.
+unfoldable pub Passes : ℕ → ℕ → Type 0
+Passes test n = cond (eqb test 3) (IsKind (kindIn n)) (cond (eqb test 4) (Named (halfIn n)) (Masked (halfIn n)))
+
+-- The tests have passed, of the block and of each change in the list.
+abbrev pub Prepared : List ℕ → List ℕ → Type 0
+Prepared cs b = (i : ℕ) → i < length cs → Ready (halfIn (getD cs i 0)) b
+
+-- The first i changes of the list, one after the other, lead from b₀ to b.
+pub data Went (b₀ cs : List ℕ) : ℕ → List ℕ → Type 0 where
+  nothing : Went b₀ cs 0 b₀
+  next : {i : ℕ} {b b′ : List ℕ} → Went b₀ cs i b → Ready (halfIn (getD cs i 0)) b → Step (changeIn (getD cs i 0)) b 0 b′
+      → Went b₀ cs (suc i) b′
 
 -- The tests of the message have passed.
 pub record Tested (b m : List ℕ) : Type 0 where

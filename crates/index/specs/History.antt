@@ -1,4 +1,4 @@
--- 01, "The message", last paragraph, and demand 3.
+-- 01, "The message", last paragraph, 02, M-100, and demand 3.
 use Prim.Native.Nat.{ℕ, _+_, _<_}
 use mathlib.Core.Path.{_≡_}
 use mathlib.Core.Bool.{cond}
@@ -6,17 +6,35 @@ use mathlib.Core.List.{List, [], _∷_}
 use lib.Dec.{eqb}
 use Rattle.index.specs.declared.Kind.{Kind}
 use Rattle.index.specs.Message.{Half, moves, previous, new}
-use Rattle.index.specs.Calls.{Message}
+use Rattle.index.specs.Wide.{widePrevious, wideNew}
+use Rattle.index.specs.Calls.{Message, Wide}
+
+-- "lists of wide and plain messages mixed": what is sent, the halves that it takes away and leaves, and its call.
+pub data Sent : Type 0 where
+  plain : List ℕ → Sent
+  wide : List ℕ → Sent
+
+abbrev pub previousOf : Sent → List Half
+previousOf (plain m) = previous m
+previousOf (wide m) = widePrevious m
+
+abbrev pub newOf : Sent → List Half
+newOf (plain m) = new m
+newOf (wide m) = wideNew m
+
+abbrev pub Outcome : List ℕ → Sent → (ℕ × List ℕ) → Type 0
+Outcome b (plain m) o = Message b m o
+Outcome b (wide m) o = Wide b m o
 
 -- "accepted without a refusal": all messages, one after the other, and the block goes from b to b′.
-pub data Accepted : List ℕ → List (List ℕ) → List ℕ → Type 0 where
+pub data Accepted : List ℕ → List Sent → List ℕ → Type 0 where
   nothing : {b : List ℕ} → Accepted b [] b
-  next : {b b₁ b′ m : List ℕ} {ms : List (List ℕ)} → Message b m (0, b₁) → Accepted b₁ ms b′ → Accepted b (m ∷ ms) b′
+  next : {b b₁ b′ : List ℕ} {m : Sent} {ms : List Sent} → Outcome b m (0, b₁) → Accepted b₁ ms b′ → Accepted b (m ∷ ms) b′
 
 -- "a list of messages only, each labelled with the statement it speaks for"
 pub record Labelled : Type 0 where
   pub label : ℕ
-  pub bytes : List ℕ
+  pub sent : Sent
 
 -- "What it left is the new half of its last accepted message, or nothing if that had no new half or there is none yet." "It
 -- stands while it has something left."
@@ -35,16 +53,16 @@ others l (e ∷ s) = cond (eqb (e .label) l) (others l s) (e ∷ others l s)
 
 -- After the message m was accepted its own statement has left its new half, the others what they had.
 unfoldable pub after : Labelled → List Statement → List Statement
-after m s = record { label = m .label; halves = new (m .bytes) } ∷ others (m .label) s
+after m s = record { label = m .label; halves = newOf (m .sent) } ∷ others (m .label) s
 
 -- "every message quotes as its previous state just what the last accepted message of the same statement left"; "with
 -- nothing left, the previous half is absent". A refused message changes nothing and may stand anywhere.
 pub data History : List ℕ → List Statement → List Labelled → List ℕ → List Statement → Type 0 where
   nothing : {b : List ℕ} {s : List Statement} → History b s [] b s
-  accepted : {b b₁ b′ : List ℕ} {s s′ : List Statement} {m : Labelled} {ms : List Labelled} → Message b (m .bytes) (0, b₁)
-      → previous (m .bytes) ≡ left (m .label) s → History b₁ (after m s) ms b′ s′ → History b s (m ∷ ms) b′ s′
+  accepted : {b b₁ b′ : List ℕ} {s s′ : List Statement} {m : Labelled} {ms : List Labelled} → Outcome b (m .sent) (0, b₁)
+      → previousOf (m .sent) ≡ left (m .label) s → History b₁ (after m s) ms b′ s′ → History b s (m ∷ ms) b′ s′
   refused : {b b′ : List ℕ} {s s′ : List Statement} {m : Labelled} {ms : List Labelled} {r : ℕ} → 0 < r
-      → Message b (m .bytes) (r, b) → History b s ms b′ s′ → History b s (m ∷ ms) b′ s′
+      → Outcome b (m .sent) (r, b) → History b s ms b′ s′ → History b s (m ∷ ms) b′ s′
 
 -- "the number of statements standing at that moment with that record and that letter"
 unfoldable pub movesOf : List Half → Kind → ℕ → ℕ → ℕ → ℕ

@@ -3,6 +3,8 @@ pub mod Letters
 pub mod Numbers
 pub mod Block
 pub mod Message
+pub mod Listed
+pub mod Wide
 pub mod Text
 pub mod Calls
 pub mod History

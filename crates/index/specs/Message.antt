@@ -70,8 +70,11 @@ pub data Change : Type 0 where
   add : Half → Change
 
 -- "first take away the previous half, then add the new half"
+abbrev pub steps : List Half → List Half → List Change
+steps hs gs = map take hs ++ map add gs
+
 unfoldable pub changes : List ℕ → List Change
-changes m = map take (previous m) ++ map add (new m)
+changes m = steps (previous m) (new m)
 
 -- "each letter in its mask": 1 where the half has letter k of this record, else 0.
 unfoldable pub moves : Half → Kind → ℕ → ℕ → ℕ → ℕ

@@ -15,9 +15,9 @@ use crate::places::find;
 ghost use Prim.Native.Nat.{_+_, _≤_};
 ghost use lib.ListN.{length};
 ghost use Rattle.index.specs.Block.{IsName, place, key, id, Of};
-ghost use Rattle.index.specs.Message.Change.{add};
+ghost use Rattle.index.specs.Message.Change.{take, add};
 ghost use Rattle.index.specs.Places.{Gap};
-ghost use Rattle.index.specs.Edits.{half, Ready, Written, Step, TakenAway};
+ghost use Rattle.index.specs.Edits.{half, Ready, Written, Step};
 
 // Record i is written: key, id, and each letter of the mask once.
 fn put_record(b: &mut [u8], i: usize, x: usize, y: usize, mask: usize)
@@ -35,7 +35,7 @@ fn put_record(b: &mut [u8], i: usize, x: usize, y: usize, mask: usize)
 // where a letter has count 0.
 fn take_at(b: &mut [u8], kind: Kind, i: usize, mask: usize) -> u8
     requires { ⌜ Ready (half kind (key (now b) i) (id (now b) i) mask) (now b) × Of (now b) kind i ⌝ }
-    ensures { λ r. ⌜ TakenAway (half kind (key (now (b .entry)) i) (id (now (b .entry)) i) mask) (now (b .entry)) r (now (b .exit)) ⌝ }
+    ensures { λ r. ⌜ Step (take (half kind (key (now (b .entry)) i) (id (now (b .entry)) i) mask)) (now (b .entry)) r (now (b .exit)) ⌝ }
 {
     if !allows(b, i, mask, 0) {
         return 6;
@@ -51,7 +51,7 @@ fn take_at(b: &mut [u8], kind: Kind, i: usize, mask: usize) -> u8
 // Take the half away; 6 where a letter of it has count 0 or no record.
 pub(crate) fn take_away(b: &mut [u8], kind: Kind, x: usize, y: usize, mask: usize) -> u8
     requires { ⌜ Ready (half kind x y mask) (now b) ⌝ }
-    ensures { λ r. ⌜ TakenAway (half kind x y mask) (now (b .entry)) r (now (b .exit)) ⌝ }
+    ensures { λ r. ⌜ Step (take (half kind x y mask)) (now (b .entry)) r (now (b .exit)) ⌝ }
 {
     match find(b, kind, x, y) {
         Found::At(i) => take_at(b, kind, i, mask),

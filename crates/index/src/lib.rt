@@ -1,5 +1,6 @@
 // The index block: what it holds, the messages that change it, and its sets as text.
 
+mod carry;
 mod checks;
 mod counts;
 mod doors;
@@ -7,6 +8,7 @@ mod edits;
 mod entries;
 mod kinds;
 mod letters;
+mod lists;
 mod making;
 mod messages;
 mod moves;
@@ -25,8 +27,10 @@ pub use crate::doors::id_of;
 pub use crate::doors::key_of;
 pub use crate::doors::net_of;
 pub use crate::doors::size_of;
+pub use crate::lists::carry_out;
 pub use crate::making::make;
 pub use crate::messages::message;
+pub use crate::run::pack;
 pub use crate::sets::read_set;
 pub use crate::sets::write_set;
 

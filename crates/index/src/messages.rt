@@ -2,10 +2,10 @@
 
 use crate::Kind;
 use crate::NAMES;
+use crate::carry::carry;
 use crate::checks::tested;
 use crate::kinds::kind_of;
 use crate::numbers::number_at;
-use crate::run::carry;
 ghost use mathlib.Core.Path.{_≡_};
 ghost use mathlib.Core.List.{_++_};
 ghost use Prim.Native.Nat.{_+_, _^_, _≤_};
@@ -79,7 +79,7 @@ fn names_good(m: &[u8], i: usize, absent: u8) -> bool
 }
 
 // The masks of letters of the kind are below this one.
-fn mask_end(kind: Kind) -> usize
+pub(crate) fn mask_end(kind: Kind) -> usize
     ensures { λ r. ⌜ r ≡ 2 ^ lettersOf kind ⌝ }
 {
     match kind {

@@ -1,85 +1,96 @@
-// The halves of a message are carried out.
+// A list of changes is carried out, or nothing of it.
 
-use crate::Kind;
 use crate::edits::put_in;
 use crate::edits::take_away;
 use crate::kinds::kind_of;
-use crate::numbers::number_at;
 ghost use mathlib.Core.Path.{_≡_};
-ghost use Prim.Native.Nat.{_+_, _≤_};
+ghost use mathlib.Core.List.{List};
+ghost use Prim.Native.Nat.{ℕ, _+_, _/_, _%_, _≤_};
 ghost use lib.ListN.{length};
-ghost use Rattle.index.specs.Message.{kindOf, halfAt, changes, Carried};
-ghost use Rattle.index.specs.Message.Change.{add};
-ghost use Rattle.index.specs.Edits.{half, Ready, Step, TakenAway, Runs, Tested};
+ghost use Rattle.index.specs.Message.{kindOf, Carried};
+ghost use Rattle.index.specs.Listed.{packed, kindIn, halfIn, changeIn, changesIn};
+ghost use Rattle.index.specs.Edits.{half, Ready, Step, Prepared, Went};
 
-// A half of a message, with the message's kind.
-struct Half {
-    kind: Kind,
-    x: usize,
-    y: usize,
-    mask: usize,
+// A change as a number.
+pub fn pack(adds: bool, kind: u8, key: u16, name: u16, mask: u16) -> u64
+    ensures { λ r. ⌜ r ≡ packed adds kind key name mask ⌝ }
+{
+    let half = (mask as u64)
+        + 65536 * ((name as u64) + 65536 * ((key as u64) + 65536 * (kind as u64)));
+    if adds {
+        return 1 + 2 * half;
+    }
+    2 * half
 }
 
-// The half at byte i of the message.
-fn half_at(m: &[u8], i: usize) -> Half
-    requires { ⌜ i + 5 ≤ length (now m) ⌝ }
-    ensures { λ r. ⌜ half (r .kind) (r .x) (r .y) (r .mask) ≡ halfAt (now (m .entry)) i ⌝ }
-{
-    let kind = kind_of(m[0] as u64);
-    let x = number_at(m, i);
-    let y = number_at(m, i + 2);
-    let mask = m[i + 4] as usize;
-    Half { kind, x, y, mask }
+// The half of a change, with the number of its kind.
+pub(crate) struct Half {
+    pub(crate) kind: u64,
+    pub(crate) x: usize,
+    pub(crate) y: usize,
+    pub(crate) mask: usize,
 }
 
-// It is taken away.
-fn take_half(b: &mut [u8], m: &[u8], i: usize) -> u8
-    requires { ⌜ Ready (halfAt (now m) i) (now b) × (i + 5 ≤ length (now m)) ⌝ }
-    ensures { λ r. ⌜ TakenAway (halfAt (now (m .entry)) i) (now (b .entry)) r (now (b .exit)) ⌝ }
+pub(crate) fn half_in(n: u64) -> Half
+    ensures { λ r. ⌜ (r .kind ≡ kindIn n) × (half (kindOf (r .kind)) (r .x) (r .y) (r .mask) ≡ halfIn n) ⌝ }
 {
-    let h = half_at(m, i);
-    let kind = h.kind;
-    take_away(b, kind, h.x, h.y, h.mask)
+    let half = n / 2;
+    Half {
+        kind: half / 65536 / 65536 / 65536,
+        x: (half / 65536 / 65536 % 65536) as usize,
+        y: (half / 65536 % 65536) as usize,
+        mask: (half % 65536) as usize,
+    }
 }
 
-// It is put in.
-fn put_half(b: &mut [u8], m: &[u8], i: usize) -> u8
-    requires { ⌜ Ready (halfAt (now m) i) (now b) × (i + 5 ≤ length (now m)) ⌝ }
-    ensures { λ r. ⌜ Step (add (halfAt (now (m .entry)) i)) (now (b .entry)) r (now (b .exit)) ⌝ }
+// One change.
+fn change(b: &mut [u8], n: u64) -> u8
+    requires { ⌜ Ready (halfIn n) (now b) ⌝ }
+    ensures { λ r. ⌜ Step (changeIn n) (now (b .entry)) r (now (b .exit)) ⌝ }
 {
-    let h = half_at(m, i);
-    let kind = h.kind;
+    let h = half_in(n);
+    let kind = kind_of(h.kind);
+    if n % 2 == 0 {
+        return take_away(b, kind, h.x, h.y, h.mask);
+    }
     put_in(b, kind, h.x, h.y, h.mask)
 }
 
-// The previous half is taken away, and the new one put in. Where that is refused, the previous half is put back.
-fn replace(b: &mut [u8], m: &[u8]) -> u8
-    requires { ⌜ Ready (halfAt (now m) 2) (now b) × Ready (halfAt (now m) 7) (now b) × (length (now m) ≡ 12) ⌝ }
-    ensures { λ r. ⌜ Runs (halfAt (now (m .entry)) 2) (halfAt (now (m .entry)) 7) (now (b .entry)) (r, now (b .exit)) ⌝ }
+// The change that undoes it.
+fn opposite(n: u64) -> u64
+    ensures { λ r. ⌜ (r / 2 ≡ n / 2) × (r % 2 + n % 2 ≡ 1) ⌝ }
 {
-    let taken = take_half(b, m, 2);
-    if taken != 0 {
-        return taken;
+    if n % 2 == 0 {
+        return n + 1;
     }
-    let added = put_half(b, m, 7);
-    if added == 0 {
-        return 0;
-    }
-    put_half(b, m, 2);
-    added
+    n - 1
 }
 
-// The halves that are present of a message whose tests have passed.
-pub(crate) fn carry(b: &mut [u8], m: &[u8]) -> u8
-    requires { ⌜ Tested (now b) (now m) ⌝ }
-    ensures { λ r. ⌜ Carried (now (b .entry)) (changes (now (m .entry))) (now (b .entry)) (r, now (b .exit)) ⌝ }
+// The first n changes, which were done one after the other, are undone, the last one first.
+fn undo(b: &mut [u8], changes: &[u64], n: usize)
+    requires { ⌜ Prepared (now changes) (now b) × (n ≤ length (now changes)) ⌝ }
+    ensures { λ _. ⌜ ((b₀ : List ℕ) → Went b₀ (now (changes .entry)) n (now (b .entry)) → now (b .exit) ≡ b₀) ⌝ }
 {
-    let flags = m[1];
-    if flags == 1 {
-        return take_half(b, m, 2);
+    let mut i = n;
+    while 0 < i {
+        i -= 1;
+        change(b, opposite(changes[i]));
     }
-    if flags == 2 {
-        return put_half(b, m, 7);
+}
+
+// The changes one after the other. The first that is refused gives its number, and those before it are undone.
+pub(crate) fn run(b: &mut [u8], changes: &[u64]) -> u8
+    requires { ⌜ Prepared (now changes) (now b) ⌝ }
+    ensures { λ r. ⌜ Carried (now (b .entry)) (changesIn (now (changes .entry))) (now (b .entry)) (r, now (b .exit)) ⌝ }
+{
+    let mut i = 0;
+    while i < changes.len() {
+        let number = change(b, changes[i]);
+        if number != 0 {
+            undo(b, changes, i);
+            return number;
+        }
+        i += 1;
     }
-    replace(b, m)
+    0
 }

@@ -7,7 +7,7 @@ use Rattle.index.specs.Calls.{Makes}
 use Rattle.index.specs.History.{Labelled, Statement, History}
 use Rattle.index.specs.History.History.{nothing, accepted, refused}
 use Rattle.index.proofs.AnyOrder.{any-order}
-use Rattle.index.proofs.OneMessage.{one-message}
+use Rattle.index.proofs.OneMessage.{one-sent}
 use Rattle.index.proofs.Standing.{Once, Single, Counts, standing}
 use Rattle.tight.specs.Demand3.{FirstHalf, CountsStanding, SecondHalf}
 
@@ -19,12 +19,12 @@ one-history : {b b₁ b₂ : List ℕ} {s s₁ s₂ : List Statement} {ms : List
     → (b₁ ≡ b₂) × (s₁ ≡ s₂)
 one-history nothing nothing = (refl, refl)
 one-history (accepted {b = b} {b₁ = c} {m = m} h q p) (accepted {b₁ = d} h′ q′ p′) =
-    let e : d ≡ c = ap (λ (o : ℕ × List ℕ). o .1) (one-message b (m .bytes) (0, d) (0, c) h′ h) in
+    let e : d ≡ c = ap (λ (o : ℕ × List ℕ). o .1) (one-sent b (m .sent) (0, d) (0, c) h′ h) in
     one-history p (rw e at p′)
 one-history (accepted {b = b} {b₁ = c} {m = m} h q p) (refused {r = r} u h′ p′) =
-    absurd (omega (arith, ap (λ (o : ℕ × List ℕ). o .0) (one-message b (m .bytes) (0, c) (r, b) h h′)))
+    absurd (omega (arith, ap (λ (o : ℕ × List ℕ). o .0) (one-sent b (m .sent) (0, c) (r, b) h h′)))
 one-history (refused {b = b} {m = m} {r = r} u h p) (accepted {b₁ = d} h′ q′ p′) =
-    absurd (omega (arith, ap (λ (o : ℕ × List ℕ). o .0) (one-message b (m .bytes) (r, b) (0, d) h h′)))
+    absurd (omega (arith, ap (λ (o : ℕ × List ℕ). o .0) (one-sent b (m .sent) (r, b) (0, d) h h′)))
 one-history (refused u h p) (refused u′ h′ p′) = one-history p p′
 
 -- What is so of the block and the statements after the messages ms.
@@ -38,7 +38,8 @@ counts b₀ b {ms = ms} made h =
 pub second-half : SecondHalf
 second-half b₀ b b₁ ms s₁ made h = counts b₀ b made h .counts
 
--- So that the tally is a number of statements: each has its label to itself, and one half left at most.
+-- So that the tally is a number of statements: each has its label to itself, and counts at most once in a
+-- letter of a record.
 pub statements-apart : (b₀ b : List ℕ) {b₁ : List ℕ} {ms : List Labelled} {s₁ : List Statement} → Makes b₀ (0, b)
     → History b [] ms b₁ s₁ → Once s₁ × Single s₁
 statements-apart b₀ b made h = let c = counts b₀ b made h in (c .once, c .single)

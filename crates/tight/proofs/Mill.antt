@@ -8,7 +8,8 @@ use Rattle.index.specs.Letters.{lettersOf}
 use Rattle.index.specs.Block.{number, countAt, count}
 use Rattle.index.specs.Message.{kindOf, kindNumber, flags, halfAt, previous, new, moves}
 use Rattle.index.specs.Calls.{Message}
-use Rattle.index.specs.History.{Accepted, Statement, left, others, after, History, movesOf, tally}
+use Rattle.index.specs.History.{Sent, Accepted, Statement, left, others, after, History, movesOf, tally}
+use Rattle.index.specs.History.Sent.{plain}
 use Rattle.index.specs.History.Accepted.{next}
 use Rattle.index.specs.History.History.{accepted}
 use Rattle.index.proofs.GoodTest.{good-test}
@@ -43,10 +44,10 @@ held-by-none = appointments-right .1 .1 .1 .1 .1 .0
 
 -- ---- the right stands while one appointment does
 
-one-ended : Accepted nothing (give ∷ give ∷ withdraw ∷ []) (reads 1)
+one-ended : Accepted nothing (plain give ∷ plain give ∷ plain withdraw ∷ []) (reads 1)
 one-ended = next first-given (next second-given (next one-withdrawn Accepted.nothing))
 
-both-ended : Accepted nothing (give ∷ give ∷ withdraw ∷ withdraw ∷ []) nothing
+both-ended : Accepted nothing (plain give ∷ plain give ∷ plain withdraw ∷ plain withdraw ∷ []) nothing
 both-ended = next first-given (next second-given (next one-withdrawn (next both-withdrawn Accepted.nothing)))
 
 -- "a right she had never lost": user 1 holds right 1, to read, on 9.
@@ -57,10 +58,10 @@ never-lost = accepted-full (reads 1) 1 9 15 2 held-by-one .1 .1 1 (omega arith) 
 -- Whatever programs meet the promises answer so.
 pub still-answered : (f : Messages) (g : Questions) → MeetsMessage f → MeetsFull g
     → g (run f nothing (give ∷ give ∷ withdraw ∷ [])) 1 9 15 ≡ (0, 2)
-still-answered f g meets-f meets-g = rw (runs f meets-f one-ended) (answers g meets-g (reads 1) 1 9 15 held-by-one)
+still-answered f g meets-f meets-g = rw (runs f meets-f (give ∷ give ∷ withdraw ∷ []) one-ended) (answers g meets-g (reads 1) 1 9 15 held-by-one)
 
 -- In every order in which the four messages are accepted, the block is empty again.
-pub both-gone : (ms : List (List ℕ)) (b : List ℕ) → List·Permᴰ ms (give ∷ give ∷ withdraw ∷ withdraw ∷ []) → Accepted nothing ms b
+pub both-gone : (ms : List Sent) (b : List ℕ) → List·Permᴰ ms (plain give ∷ plain give ∷ plain withdraw ∷ plain withdraw ∷ []) → Accepted nothing ms b
     → b ≡ nothing
 unfolding number countAt lettersOf
 both-gone ms b p h = first-half nothing b nothing ms _ (good-test nothing refl) p h both-ended

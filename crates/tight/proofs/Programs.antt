@@ -1,10 +1,11 @@
 -- What a program that meets its promise does: it gives the one outcome that the promise allows.
 use Prim.Native.Nat.{ℕ}
 use mathlib.Core.Path.{_≡_, refl, sym, _∙_, ap}
-use mathlib.Core.List.{List}
+use mathlib.Core.List.{List, [], _∷_, map}
 use native.Mathlib.Omega.{arith}
 use Rattle.index.specs.Calls.{Message, blockNeeds}
 use Rattle.index.specs.History.{Accepted}
+use Rattle.index.specs.History.Sent.{plain}
 use Rattle.index.specs.History.Accepted.{nothing, next}
 use Rattle.index.proofs.Firsts.{All, first-passed}
 use Rattle.index.proofs.OneMessage.{one-message}
@@ -25,9 +26,9 @@ module _ (f : Messages) (meets : MeetsMessage f) where
   pub does : {b m : List ℕ} {o : ℕ × List ℕ} → Message b m o → f b m ≡ o
   does {b} {m} {o} h = one-message b m (f b m) o (meets b m) h
 
-  pub runs : {b b′ : List ℕ} {ms : List (List ℕ)} → Accepted b ms b′ → run f b ms ≡ b′
-  runs nothing = refl
-  runs (next {b} {b₁} {m = m} {ms = ms} h r) = ap (λ (o : ℕ × List ℕ). run f (o .1) ms) (does h) ∙ runs r
+  pub runs : {b b′ : List ℕ} (ms : List (List ℕ)) → Accepted b (map plain ms) b′ → run f b ms ≡ b′
+  runs [] nothing = refl
+  runs (m ∷ ms) (next h r) = ap (λ (o : ℕ × List ℕ). run f (o .1) ms) (does h) ∙ runs ms r
 
 module _ (g : Questions) (meets : MeetsFull g) where
   pub answers : (b : List ℕ) (u o request : ℕ) {a : ℕ × ℕ} → Full b u o request a → g b u o request ≡ a

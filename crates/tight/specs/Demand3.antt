@@ -6,13 +6,13 @@ use Rattle.index.specs.declared.Kind.{Kind}
 use Rattle.index.specs.Letters.{letterCount}
 use Rattle.index.specs.Block.{Good, count}
 use Rattle.index.specs.Calls.{Makes}
-use Rattle.index.specs.History.{Accepted, Labelled, Statement, History, tally}
+use Rattle.index.specs.History.{Sent, Accepted, Labelled, Statement, History, tally}
 
 -- "Take any good block and any list of messages. If two orders of that list are both accepted without a refusal, the two
 -- blocks end equal, byte for byte."
 abbrev pub FirstHalf : Type 0
 FirstHalf =
-    (b b₁ b₂ : List ℕ) (ms ms′ : List (List ℕ)) → Good b → List·Permᴰ ms ms′ → Accepted b ms b₁ → Accepted b ms′ b₂
+    (b b₁ b₂ : List ℕ) (ms ms′ : List Sent) → Good b → List·Permᴰ ms ms′ → Accepted b ms b₁ → Accepted b ms′ b₂
     → b₁ ≡ b₂
 
 -- "each count, 0 for a missing record, equals the number of statements standing at that moment with that record and that

@@ -7,7 +7,7 @@ use Prim.Native.Nat.{_+_, _≤_}
 use Rattle.index.specs.Message.{Half}
 use Rattle.index.specs.Edits.{half}
 use Rattle.index.proofs.Answer.{yes-is, no-is, yes-not, no-not}
-use Rattle.index.proofs.Steps.{take-lacks, taken-not, taken-lowered, taken-removed, at-self, of-inside, opens-one}
+use Rattle.index.proofs.Steps.{take-lacks, taken-lowered, taken-removed, at-self, of-inside, opens-one}
 use Rattle.index.proofs.edits.take_at.Statement.{statement}
 use Rattle.index.proofs.edits.take_at.Tie as tie
 
@@ -23,8 +23,7 @@ allows-requires c κs = inside (c .before .before)
 returns : tie.Need-returns
 returns c =
     let s = c .before .before .before .before in
-    taken-not
-    (take-lacks (h s) (s .pre .0 .good) (at-self (s .pre .1)) (λ w. no-not (c .before .allows .result) (c .if1 .taken) w (c .before .allows .ensures)))
+    take-lacks (h s) (s .pre .0 .good) (at-self (s .pre .1)) (λ w. no-not (c .before .allows .result) (c .if1 .taken) w (c .before .allows .ensures))
 
 left-over-requires : tie.Need-left-over-requires
 left-over-requires c κs = inside (c .before .before .before .before .before)

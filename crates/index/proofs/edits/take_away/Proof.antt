@@ -3,7 +3,7 @@ use mathlib.Core.Path.{subst}
 use borrow.Author.Needs.{needs}
 use Rattle.index.specs.Places.{At, Gap}
 use Rattle.index.specs.Edits.{half, Finds}
-use Rattle.index.proofs.Steps.{take-missing, taken-not}
+use Rattle.index.proofs.Steps.{take-missing}
 use Rattle.index.proofs.edits.take_away.Statement.{statement}
 use Rattle.index.proofs.edits.take_away.Tie as tie
 
@@ -32,8 +32,7 @@ returns c =
 returns-2 : tie.Need-returns-2
 returns-2 c =
     let s = c .before .before .before .before .before in
-    taken-not
-    (take-missing (half (s .args .kind) (s .args .x) (s .args .y) (s .args .mask)) (missing c) (s .pre .masked))
+    take-missing (half (s .args .kind) (s .args .x) (s .args .y) (s .args .mask)) (missing c) (s .pre .masked)
 
 pub take-away-spec : {M : Type 1} → statement M
 take-away-spec =

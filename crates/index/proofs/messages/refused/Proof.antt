@@ -6,16 +6,18 @@ use mathlib.Core.Logic.{inl, inr}
 use borrow.Author.Needs.{needs}
 use Rattle.index.specs.Numbers.{Answers, Each}
 use Rattle.index.specs.Message.{previous, new, WellFormed, Named}
-use Rattle.index.specs.Calls.{messageNeeds}
+use Rattle.index.specs.Calls.{blockNeeds, messageNeeds}
 use Rattle.index.proofs.Answer.{yes-not, no-not}
-use Rattle.index.proofs.Halves.{ownNeeds, needs-early, needs-late}
+use Rattle.index.proofs.Halves.{ownNeeds, block-late}
+use Rattle.index.proofs.Firsts.{answers-first}
 use Rattle.index.proofs.messages.refused.Statement.{statement}
 use Rattle.index.proofs.messages.refused.Tie as tie
 
 -- What has passed: the tests of the block, the form, the names.
 late : (c : tie.Else1) (r : ℕ) → Answers (ownNeeds (c .before .before .before .before .args .m .now)) r
     → Answers (messageNeeds (c .before .before .before .before .args .b .now) (c .before .before .before .before .args .m .now)) r
-late c r = needs-late (c .before .before .before .before .args .b .now) (c .before .before .before .before .args .m .now) r (c .if1 .left) (c .before .tested .ensures)
+unfolding messageNeeds
+late c r = block-late (c .before .before .before .before .args .b .now) (ownNeeds (c .before .before .before .before .args .m .now)) r (c .if1 .left) (c .before .tested .ensures)
 
 formed : (c : tie.Else2) → WellFormed (c .before .before .before .before .before .before .args .m .now)
 formed c = yes-not (c .before .well-formed .result) (c .if2 .left) (c .before .well-formed .ensures)
@@ -24,9 +26,10 @@ names : (c : tie.Else3) → Each Named (previous (c .before .before .before .bef
 names c = yes-not (c .before .named .result) (c .if3 .left) (c .before .named .ensures)
 
 returns : tie.Need-returns
+unfolding messageNeeds
 returns c =
     let s = c .before .before .before .before in
-    needs-early (s .args .b .now) (s .args .m .now) (c .if1 .taken) (c .before .tested .ensures)
+    answers-first (blockNeeds (s .args .b .now)) (ownNeeds (s .args .m .now)) (c .if1 .taken) (c .before .tested .ensures)
 
 returns-2 : tie.Need-returns-2
 returns-2 c =
