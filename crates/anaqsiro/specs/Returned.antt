@@ -1,4 +1,4 @@
--- What the C interface returns: "refusal number × 2^32 + value; the value is 0 on refusal".
+-- What the C interface returns: the refusal's number times 2^32, plus a value, which is 0 on refusal.
 use Prim.Native.Nat.{ℕ, _+_, _*_, _<_}
 use mathlib.Core.Path.{_≡_}
 use mathlib.Core.List.{List}

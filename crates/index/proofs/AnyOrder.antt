@@ -2,7 +2,7 @@
 use Prim.Native.Nat.{ℕ, _+_, _<_}
 use native.Mathlib.Omega.{arith}
 use mathlib.Core.Path.{_≡_, refl, sym, _∙_, ap, ap₂, subst}
-use mathlib.Core.List.{List, [], _∷_, map, List·Permᴰ, Permᴰ·map}
+use mathlib.Core.List.{List, [], _∷_, List·Permᴰ}
 use mathlib.Core.List.List·Permᴰ.{List·Permᴰ·nil, List·Permᴰ·cons, List·Permᴰ·swap, List·Permᴰ·trans}
 use lib.ListN.{length}
 use Rattle.index.specs.declared.Kind.{Kind}
@@ -13,7 +13,6 @@ use Rattle.index.specs.Letters.{letterCount}
 use Rattle.index.specs.Listed.{changesIn}
 use Rattle.index.specs.Calls.{blockNeeds, listNeeds, CarriesOut}
 use Rattle.index.specs.History.{Sent, previousOf, newOf, Outcome, Accepted}
-use Rattle.index.specs.History.Sent.{plain}
 use Rattle.index.specs.History.Accepted.{nothing, next}
 use Rattle.index.proofs.Canonical.{canonical}
 use Rattle.index.proofs.Firsts.{first-passed}
@@ -106,8 +105,3 @@ any-order g p s t =
       total-perm (up kind x y k) p,
     ))
     (u .same-length ∙ sym (v .same-length))
-
--- Plain messages only.
-pub any-order-plain : {b b₁ b₂ : List ℕ} (ms ms′ : List (List ℕ)) → Good b → List·Permᴰ ms ms′
-    → Accepted b (map plain ms) b₁ → Accepted b (map plain ms′) b₂ → b₁ ≡ b₂
-any-order-plain ms ms′ g p s t = any-order g (Permᴰ·map plain p) s t

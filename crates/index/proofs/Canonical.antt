@@ -10,7 +10,7 @@ use lib.Seq.{ext-getD}
 use Rattle.index.specs.declared.Kind.{Kind}
 use Rattle.index.specs.declared.Kind.the-variants.{Membership, Permission, Filter}
 use Rattle.index.specs.Letters.{letterCount}
-use Rattle.index.specs.Block.{number, size, from, records, place, key, id, countAt, count, Of, Good}
+use Rattle.index.specs.Block.{number, size, from, records, place, key, id, countAt, count, Of, Good, headerLength, recordLength}
 use Rattle.index.specs.Places.{spot, At}
 use Rattle.index.proofs.Range.{lt-or-le}
 use Rattle.index.proofs.Bytes.{count-number}
@@ -135,7 +135,7 @@ module _ {b b′ : List ℕ} (g : Good b) (g′ : Good b′) (same : Counts b b�
   half : (t u : ℕ) → 2 * (u / 2) ≡ t → number b t ≡ number b′ t → getD b u 0 ≡ getD b′ u 0
   half t u q e = two t u e (⊎-elim (λ h. inl (omega arith)) (λ h. inr (omega arith)) (lt-or-le (u % 2) 1))
 
-  head : (q : ℕ) → q < 8 → number b (2 * q) ≡ number b′ (2 * q)
+  head : (q : ℕ) → q < headerLength / 2 → number b (2 * q) ≡ number b′ (2 * q)
   head zero l = sizes Membership
   head (suc zero) l = sizes Permission
   head (suc (suc zero)) l = sizes Filter
@@ -146,7 +146,7 @@ module _ {b b′ : List ℕ} (g : Good b) (g′ : Good b′) (same : Counts b b�
   head (suc (suc (suc (suc (suc (suc (suc zero))))))) l = omega (arith, g .end-offset, g′ .end-offset, all)
   head (suc (suc (suc (suc (suc (suc (suc (suc q)))))))) l = absurd (omega arith)
 
-  field : (i : ℕ) → i < records b → (q : ℕ) → q < 10 → number b (place i + 2 * q) ≡ number b′ (place i + 2 * q)
+  field : (i : ℕ) → i < records b → (q : ℕ) → q < 2 + letterCount → number b (place i + 2 * q) ≡ number b′ (place i + 2 * q)
   field i l q h =
       let o = kind-of b i l in
       let n = named (o .0) i (o .1) in
@@ -166,11 +166,11 @@ module _ {b b′ : List ℕ} (g : Good b) (g′ : Good b′) (same : Counts b b�
       (λ h.
       ⊎-elim
       (λ k.
-      half (place ((u - 16) / 20) + 2 * ((u - 16) % 20 / 2)) u (omega arith)
-      (field ((u - 16) / 20) (omega arith) ((u - 16) % 20 / 2) (omega arith)))
+      half (place ((u - headerLength) / recordLength) + 2 * ((u - headerLength) % recordLength / 2)) u (omega arith)
+      (field ((u - headerLength) / recordLength) (omega arith) ((u - headerLength) % recordLength / 2) (omega arith)))
       (λ k. g .tail u k ∙ sym (g′ .tail u (omega (arith, all))))
       (lt-or-le u (place (records b))))
-      (lt-or-le u 16)
+      (lt-or-le u headerLength)
 
   pub canonical : length b ≡ length b′ → b ≡ b′
   canonical e = ext-getD 0 b b′ e (λ u _. byte u)

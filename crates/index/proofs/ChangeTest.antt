@@ -19,27 +19,7 @@ use Rattle.index.specs.Places.{At}
 use Rattle.index.proofs.Tests.{both, all, all-at}
 use Rattle.index.proofs.Records.{where-is, count-none}
 use Rattle.index.proofs.GoodTest.{goodTest, good-test}
-
--- The half of a change.
-abbrev halfOf : Change → Half
-halfOf (take h) = h
-halfOf (add h) = h
-
-moves-none : (h : Half) (kind : Kind) (x y k : ℕ) → ((h .key ≡ x) × (h .id ≡ y) → ⊥) → moves h kind x y k ≡ 0
-unfolding moves
-moves-none h kind x y k n = go (eqb (kindNumber (h .kind)) (kindNumber kind)) (eqb (h .key) x) (eqb (h .id) y) refl refl
-  where
-    go : (s t u : Bool) → eqb (h .key) x ≡ t → eqb (h .id) y ≡ u → cond (s && (t && u)) (h .mask / 2 ^ k % 2) 0 ≡ 0
-    go true true true p q = absurd (n (eqb-true _ _ p, eqb-true _ _ q))
-    go true true false p q = refl
-    go true false u p q = refl
-    go false t u p q = refl
-
-change-none : (c : Change) (kind : Kind) (x y k : ℕ) → ((halfOf c .key ≡ x) × (halfOf c .id ≡ y) → ⊥)
-    → (taken c kind x y k ≡ 0) × (added c kind x y k ≡ 0)
-unfolding taken added
-change-none (take h) kind x y k n = (moves-none h kind x y k n, refl)
-change-none (add h) kind x y k n = (refl, moves-none h kind x y k n)
+use Rattle.index.proofs.HalfLetters.{halfOf, change-none}
 
 module _ (c : Change) (b b′ : List ℕ) where
   -- The counts of one record are as the change says.
@@ -73,7 +53,7 @@ module _ (c : Change) (b b′ : List ℕ) where
   balanced-else : (kind : Kind) (x y : ℕ) → ((i : ℕ) → At b kind x y i → ⊥) → ((i : ℕ) → At b′ kind x y i → ⊥)
       → ((halfOf c .key ≡ x) × (halfOf c .id ≡ y) → ⊥) → Balanced kind x y
   balanced-else kind x y old new n k l =
-      let m = change-none c kind x y k n in
+      let m = change-none c kind x y k (λ e. n (e .1, e .2)) in
       omega (arith, count-none b kind x y k old, count-none b′ kind x y k new, m .0, m .1)
 
   balanced-half : (kind : Kind) (x y : ℕ) → balanced kind (halfOf c .key) (halfOf c .id) ≡ true → (halfOf c .key ≡ x) × (halfOf c .id ≡ y)

@@ -8,7 +8,7 @@ use lib.ListN.{getD}
 use Rattle.index.specs.declared.Kind.{Kind}
 use Rattle.index.specs.declared.Kind.the-variants.{Membership, Permission, Filter}
 use Rattle.index.specs.Letters.{letterCount}
-use Rattle.index.specs.Block.{from, size, records, Of, key, id, countAt, Good, count}
+use Rattle.index.specs.Block.{nameCount, from, size, records, Of, key, id, countAt, Good, count}
 use Rattle.index.specs.Bytes.{Spliced, Fits}
 use Rattle.index.specs.Checks.{Record}
 use Rattle.index.specs.Message.{Change, Changed, taken, added}
@@ -32,8 +32,8 @@ gap-none {j = j} g i a =
 pub record Old (b : List ℕ) (K : Kind) (x y j n : ℕ) (counts : ℕ → ℕ) : Type 0 where
   pub low : from b K ≤ j
   pub high : j + n ≤ from b K + size b K
-  pub before : (i : ℕ) → Of b K i → i < j → spot b i < 1024 * x + y
-  pub after : (i : ℕ) → Of b K i → j + n ≤ i → 1024 * x + y < spot b i
+  pub before : (i : ℕ) → Of b K i → i < j → spot b i < nameCount * x + y
+  pub after : (i : ℕ) → Of b K i → j + n ≤ i → nameCount * x + y < spot b i
   pub each : (i : ℕ) → j ≤ i → i < j + n → At b K x y i
   pub are : (k : ℕ) → count b K x y k ≡ counts k
 

@@ -13,7 +13,7 @@ use Rattle.index.specs.Checks.{Counted, Record}
 use Rattle.index.specs.Message.{Half, Masked, Change, Changed}
 use Rattle.index.specs.Message.Change.{take, add}
 use Rattle.index.specs.Places.{At, Gap}
-use Rattle.index.specs.Edits.{bit, Recounted, Written, Ready}
+use Rattle.index.specs.Edits.{bit, Recounted, NewRecord, Ready}
 use Rattle.index.proofs.Bytes.{number-below, count-out, inside-wide}
 use Rattle.index.proofs.Changes.{old-one, old-none, new-one, new-none, changed-records, changed-is}
 use Rattle.index.proofs.Checked.{header-of}
@@ -87,7 +87,7 @@ module _ (h : Half) {b b′ : List ℕ} {j : ℕ} (g : Good b) (bytes : (t : ℕ
   removed-records a s = changed-records g s bytes (old-one g a) (new-none b′ (h .kind) (h .key) (h .id) j)
 
   pub inserted-is : {b₁ : List ℕ} → Ready h b → Gap b (h .kind) (h .key) (h .id) j → Spliced (h .kind) j 0 1 b b₁
-      → Written j (h .key) (h .id) (h .mask) b₁ b′ → Changed (add h) b b′
+      → NewRecord j (h .key) (h .id) (h .mask) b₁ b′ → Changed (add h) b b′
   unfolding Masked
   inserted-is r gap s w =
       let masked = r .masked in

@@ -9,14 +9,14 @@ use Rattle.index.specs.declared.Kind.{Kind}
 use Rattle.index.specs.declared.Kind.the-variants.{Membership, Permission, Filter}
 use Rattle.index.specs.Block.{headerLength, from, size, records, Good}
 use Rattle.index.specs.Checks.{Zero}
-use Rattle.index.specs.Edits.{Filled, Headed}
+use Rattle.index.specs.Edits.{Overwritten, Headed}
 use Rattle.index.proofs.Checked.{part-none, part-less, each-kind, good-of}
 use Rattle.index.proofs.Range.{lt-or-le}
 
 module _
     {b b₁ b₂ : List ℕ}
     (l : headerLength ≤ length b)
-    (w : Filled headerLength (length b) (λ u. 0) b b₁)
+    (w : Overwritten headerLength (length b) (λ u. 0) b b₁)
     (h : Headed 0 0 0 b₁ b₂) where
   none : (K : Kind) → size b₂ K ≡ 0
   none = each-kind (λ K. size b₂ K ≡ 0) (h .sizes Membership) (h .sizes Permission) (h .sizes Filter)

@@ -15,12 +15,15 @@ use Rattle.index.specs.Letters.{letterCount}
 use Rattle.index.specs.Block.{number, place, key, id}
 use Rattle.index.specs.Text.{Entry, countsAt, entryAt, IsEntry, IsSet, Writes}
 use Rattle.index.specs.Bytes.{Inside, Put}
-use Rattle.index.specs.Reading.{Read}
-use Rattle.index.specs.Reading.Read.{got, wrong}
-use Rattle.index.specs.Pieces.{rest}
+use Rattle.index.specs.declared.reading.Cursor.{Cursor}
+use Rattle.index.specs.declared.reading.Piece.{Piece}
+use Rattle.index.specs.declared.reading.Piece.the-variants.{Number}
+use Rattle.index.specs.Reading.Parsed.{got}
+use Rattle.index.specs.Pieces.{SeesEntry, rest}
 use Rattle.index.specs.Written.{Stands, Entered, entryOf, Filled}
 use Rattle.index.proofs.Bytes.{number-below, inside-none, inside-then, inside-wide, count-number}
 use Rattle.index.proofs.TakenApart.{not-got}
+use Rattle.index.proofs.HandedOn.{Other, is-entry, no-entry}
 use Rattle.index.proofs.ReadSets.{head-entry}
 use Rattle.index.proofs.Writes.{counts-eight, counts-each}
 
@@ -124,8 +127,9 @@ module _ {x first : ℕ} {text : List ℕ} {kind : Kind} {b₀ : List ℕ} {es :
       {here i : ℕ}
       (t : Taking x first text kind b₀ b here i es)
       (h : i < length es)
-      {r : Read Entry}
-      (k : (e : Entry) (fs : List Entry) → IsSet kind (e ∷ fs) → drop here text ≡ rest (ltb 0 i) (e ∷ fs) → r ≡ got e (rest true fs)) where
+      (p : Piece)
+      (cs : List ℕ)
+      (k : (e : Entry) (fs : List Entry) → IsSet kind (e ∷ fs) → drop here text ≡ rest (ltb 0 i) (e ∷ fs) → SeesEntry text p cs (got e (rest true fs))) where
     split : drop i es ≡ entryOf es i ∷ drop (i + 1) es
     split = rw add-one (drop-cons es i (record { id = 0; counts = [] }) h)
 
@@ -133,23 +137,29 @@ module _ {x first : ℕ} {text : List ℕ} {kind : Kind} {b₀ : List ℕ} {es :
     others = subst (IsSet kind) split (t .is-set)
 
     -- What is read is record i of the set.
-    reads : r ≡ got (entryOf es i) (rest true (drop (i + 1) es))
+    reads : SeesEntry text p cs (got (entryOf es i) (rest true (drop (i + 1) es)))
     reads = k (entryOf es i) (drop (i + 1) es) others (t .left ∙ ap (rest (ltb 0 i)) split)
 
-    pub never-wrong : {s : List ℕ} → r ≡ wrong s → ⊥
-    never-wrong w = not-got (sym w ∙ reads)
+    pub never-wrong : Other (1 ∷ 2 ∷ 3 ∷ []) p → ⊥
+    never-wrong o = not-got (sym (no-entry text cs p _ o reads .2))
 
-    module _ {e : Entry} (next : ℕ) (w : r ≡ got e (drop next text)) where
+    module _ {n : ℕ} {c : Cursor} (w : p ≡ Number n c) where
+      abbrev e : Entry
+      e = record { id = n; counts = cs }
+
+      as-read : got (entryOf es i) (rest true (drop (i + 1) es)) ≡ got e (drop (c .at) text)
+      as-read = is-entry text w reads
+
       same-entry : e ≡ entryOf es i
-      same-entry = let a = reads in cc
+      same-entry = let a = as-read in cc
 
       pub taken-entry : IsEntry kind e
       taken-entry = subst (IsEntry kind) (sym same-entry) (head-entry others)
 
-      pub taking-next : {b′ : List ℕ} → Entered x (first + i) e b b′ → Taking x first text kind b₀ b′ next (i + 1) es
+      pub taking-next : {b′ : List ℕ} → Entered x (first + i) e b b′ → Taking x first text kind b₀ b′ (c .at) (i + 1) es
       taking-next {b′} p =
-          let a = reads in
-          let l : drop next text ≡ rest true (drop (i + 1) es) = cc in
+          let a = as-read in
+          let l : drop (c .at) text ≡ rest true (drop (i + 1) es) = cc in
           record {
             is-set = set-tail others;
             left = l ∙ ap (λ (c : Bool). rest c (drop (i + 1) es)) (sym (lt-ltb 0 (i + 1) (omega arith)));

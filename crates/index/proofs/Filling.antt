@@ -9,17 +9,17 @@ use lib.ListN.{length, getD, set, length-set}
 use lib.Seq.{getD-set-same, getD-set-other}
 use Rattle.index.specs.Bytes.{Shifted}
 use Rattle.index.specs.Checks.{Zero}
-use Rattle.index.specs.Edits.{Filled}
+use Rattle.index.specs.Edits.{Overwritten}
 use Rattle.index.proofs.Bytes.{inside-none}
 use Rattle.index.proofs.Range.{lt-or-le}
 
-pub filled-none : (lo : ℕ) (f : ℕ → ℕ) (b : List ℕ) → Filled lo lo f b b
+pub filled-none : (lo : ℕ) (f : ℕ → ℕ) (b : List ℕ) → Overwritten lo lo f b b
 filled-none lo f b = record { rest = inside-none lo lo b; is = λ u l h. absurd (omega arith) }
 
 -- One byte more, at t.
-filled-more : {lo hi : ℕ} {f : ℕ → ℕ} {b₀ b : List ℕ} (t v lo′ hi′ : ℕ) → Filled lo hi f b₀ b → t < length b → v ≡ f t
+filled-more : {lo hi : ℕ} {f : ℕ → ℕ} {b₀ b : List ℕ} (t v lo′ hi′ : ℕ) → Overwritten lo hi f b₀ b → t < length b → v ≡ f t
     → (lo′ ≤ lo) × (hi ≤ hi′) × (lo′ ≤ t) × (t < hi′) → ((u : ℕ) → lo′ ≤ u → u < hi′ → (u ≡ t → ⊥) → (lo ≤ u) × (u < hi))
-    → Filled lo′ hi′ f b₀ (set b t v)
+    → Overwritten lo′ hi′ f b₀ (set b t v)
 filled-more {lo} {hi} {f} {b₀} {b} t v lo′ hi′ d h e w in-it =
     record {
       rest =
@@ -36,18 +36,18 @@ filled-more {lo} {hi} {f} {b₀} {b} t v lo′ hi′ d h e w in-it =
           ];
     }
 
-pub filled-up : {lo t : ℕ} {f : ℕ → ℕ} {b₀ b : List ℕ} (v : ℕ) → Filled lo t f b₀ b → lo ≤ t → t < length b → v ≡ f t
-    → Filled lo (t + 1) f b₀ (set b t v)
+pub filled-up : {lo t : ℕ} {f : ℕ → ℕ} {b₀ b : List ℕ} (v : ℕ) → Overwritten lo t f b₀ b → lo ≤ t → t < length b → v ≡ f t
+    → Overwritten lo (t + 1) f b₀ (set b t v)
 filled-up {lo} {t} v d l h e = filled-more t v lo (t + 1) d h e (omega arith) (λ u p q n. omega arith)
 
-pub filled-down : {t hi : ℕ} {f : ℕ → ℕ} {b₀ b : List ℕ} (v : ℕ) → Filled t hi f b₀ b → 0 < t → t ≤ hi → t - 1 < length b → v ≡ f (t - 1)
-    → Filled (t - 1) hi f b₀ (set b (t - 1) v)
+pub filled-down : {t hi : ℕ} {f : ℕ → ℕ} {b₀ b : List ℕ} (v : ℕ) → Overwritten t hi f b₀ b → 0 < t → t ≤ hi → t - 1 < length b → v ≡ f (t - 1)
+    → Overwritten (t - 1) hi f b₀ (set b (t - 1) v)
 filled-down {t} {hi} v d z l h e = filled-more (t - 1) v (t - 1) hi d h e (omega arith) (λ u p q n. omega arith)
 
 -- ---- the bytes from p on go to q, and those from `end` on are zero
 
 module _ {p q end : ℕ} {b₀ : List ℕ} (z : Zero b₀ end) where
-  pub shifted-up : {b : List ℕ} → p < q → p ≤ end → Filled q (q + (end - p)) (λ u. getD b₀ (u - (q - p)) 0) b₀ b → Shifted p q b₀ b
+  pub shifted-up : {b : List ℕ} → p < q → p ≤ end → Overwritten q (q + (end - p)) (λ u. getD b₀ (u - (q - p)) 0) b₀ b → Shifted p q b₀ b
   shifted-up {b} l h d =
       record {
         same-length = d .rest .same-length;
@@ -62,8 +62,8 @@ module _ {p q end : ℕ} {b₀ : List ℕ} (z : Zero b₀ end) where
             (lt-or-le t (end - p));
       }
 
-  pub shifted-down : {b b′ : List ℕ} → q ≤ p → p ≤ end → Filled q (q + (end - p)) (λ u. getD b₀ (u + (p - q)) 0) b₀ b
-      → Filled (q + (end - p)) end (λ u. 0) b b′ → Shifted p q b₀ b′
+  pub shifted-down : {b b′ : List ℕ} → q ≤ p → p ≤ end → Overwritten q (q + (end - p)) (λ u. getD b₀ (u + (p - q)) 0) b₀ b
+      → Overwritten (q + (end - p)) end (λ u. 0) b b′ → Shifted p q b₀ b′
   shifted-down {b} {b′} l h d c =
       record {
         same-length = c .rest .same-length ∙ d .rest .same-length;

@@ -6,7 +6,7 @@ use mathlib.Core.Logic.{⊎-elim}
 use native.Mathlib.Nat.{eq-or-lt-of-le}
 use native.Mathlib.Omega.{arith}
 use Rattle.index.specs.declared.Kind.{Kind}
-use Rattle.index.specs.Block.{IsName, from, size, Of, Good}
+use Rattle.index.specs.Block.{nameCount, IsName, from, size, Of, Good}
 use Rattle.index.specs.Edits.{Lowest}
 use Rattle.index.specs.Places.{spot, At, Gap}
 use Rattle.index.proofs.Records.{of-records, no-lower}
@@ -66,12 +66,12 @@ module _ {b : List ℕ} (kind : Kind) {want first end : ℕ} (s : first ≡ from
 -- ---- what was found
 
 module _ {b : List ℕ} {kind : Kind} {x y i : ℕ} (g : Good b) where
-  pub is-at : IsName y → Of b kind i → spot b i ≡ 1024 * x + y → At b kind x y i
+  pub is-at : IsName y → Of b kind i → spot b i ≡ nameCount * x + y → At b kind x y i
   is-at named o e =
       let d = g .ids i (of-records kind b i o) in
       record { of = o; has-key = omega arith; has-id = omega arith }
 
-  pub is-gap : Lowest b kind (1024 * x + y) i → (Of b kind i → spot b i ≡ 1024 * x + y → ⊥) → Gap b kind x y i
+  pub is-gap : Lowest b kind (nameCount * x + y) i → (Of b kind i → spot b i ≡ nameCount * x + y → ⊥) → Gap b kind x y i
   is-gap w n =
       record {
         low = w .low;
@@ -80,7 +80,7 @@ module _ {b : List ℕ} {kind : Kind} {x y i : ℕ} (g : Good b) where
         after =
             λ m o h.
             ⊎-elim
-            (λ (e : 1024 * x + y ≡ spot b m).
+            (λ (e : nameCount * x + y ≡ spot b m).
             let p : Of b kind i = omega (arith, w .low) in
             let q = w .above i p (omega arith) in
             let r = no-lower b g kind i m h p o in

@@ -11,7 +11,7 @@ use lib.ListN.{length, getD, List·getD-eq-default}
 use Rattle.index.specs.declared.Kind.{Kind}
 use Rattle.index.specs.declared.Kind.the-variants.{Membership, Permission, Filter}
 use Rattle.index.specs.Letters.{letterCount, lettersOf}
-use Rattle.index.specs.Block.{number, size, from, records, Of, place, key, id, countAt, Good}
+use Rattle.index.specs.Block.{nameCount, number, size, from, records, Of, place, key, id, countAt, Good}
 use Rattle.index.specs.Places.{spot}
 use Rattle.index.specs.Checks.{Header, Record}
 use Rattle.index.proofs.Range.{lt-or-le}
@@ -45,16 +45,16 @@ header-test b e =
 -- Record i as one of the kind.
 abbrev recordTest : List ℕ → Kind → ℕ → Bool
 recordTest b kind i =
-    ltb (key b i) 1024
-    && (ltb (id b i) 1024
+    ltb (key b i) nameCount
+    && (ltb (id b i) nameCount
     && (some (λ k. ltb 0 (countAt b i k)) 0 letterCount && all (λ k. eqb (countAt b i k) 0) (lettersOf kind) letterCount))
 
 record-test : (b : List ℕ) (kind : Kind) (i : ℕ) → recordTest b kind i ≡ true → Record b kind i
 record-test b kind i e =
     let above : ℕ → Bool = λ k. ltb 0 (countAt b i k) in
     let none : ℕ → Bool = λ k. eqb (countAt b i k) 0 in
-    let p = both (ltb (key b i) 1024) _ e in
-    let q = both (ltb (id b i) 1024) _ (p .1) in
+    let p = both (ltb (key b i) nameCount) _ e in
+    let q = both (ltb (id b i) nameCount) _ (p .1) in
     let r = both (some above 0 letterCount) (all none (lettersOf kind) letterCount) (q .1) in
     let c = some-at above 0 letterCount (r .0) in
     record {

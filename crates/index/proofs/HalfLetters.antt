@@ -1,5 +1,5 @@
 -- The letters of a mask, and the record that a half names.
-use Prim.Native.Nat.{ℕ, _/_, _%_, _^_, _<_, _≤_}
+use Prim.Native.Nat.{ℕ, _-_, _/_, _%_, _^_, _<_, _≤_}
 use mathlib.Core.Path.{_≡_, refl, sym, ap, _∙_}
 use mathlib.Core.Bool.{Bool, true, false, cond, _&&_}
 use mathlib.Core.Logic.{_⊎_, inl, inr}
@@ -29,13 +29,13 @@ no-letter mask n k l h =
     rw e
 
 -- It is computed at every mask.
-pub some-letter : (mask : ℕ) → 0 < mask → mask < 256 → (k : ℕ) × (k < letterCount) × (bit mask k ≡ 1)
+pub some-letter : (mask : ℕ) → 0 < mask → mask < 2 ^ letterCount → (k : ℕ) × (k < letterCount) × (bit mask k ≡ 1)
 some-letter mask z l =
     let r =
-    some-at (λ k. eqb (bit mask k) 1) 0 8 (all-at (λ n. some (λ k. eqb (bit n k) 1) 0 8) 1 255 refl mask z (omega arith)) in
+    some-at (λ k. eqb (bit mask k) 1) 0 letterCount (all-at (λ n. some (λ k. eqb (bit n k) 1) 0 letterCount) 1 (2 ^ letterCount - 1) refl mask z (omega arith)) in
     (r .0, omega (arith, r .1), eqb-true _ _ (r .2))
 
-pub masked-byte : (kind : Kind) (mask : ℕ) → mask < 2 ^ lettersOf kind → mask < 256
+pub masked-byte : (kind : Kind) (mask : ℕ) → mask < 2 ^ lettersOf kind → mask < 2 ^ letterCount
 unfolding lettersOf
 masked-byte Membership mask l = omega arith
 masked-byte Permission mask l = l

@@ -9,7 +9,7 @@ use borrow.Author.Tests.{eqb-true}
 use lib.Dec.{eqb}
 use Rattle.index.specs.declared.Kind.{Kind}
 use Rattle.index.specs.Letters.{letterCount}
-use Rattle.index.specs.Block.{place, key, id, from, size, Of, countAt, Good}
+use Rattle.index.specs.Block.{greatestCount, place, key, id, from, size, Of, countAt, Good}
 use Rattle.index.specs.Text.{Entry, entryAt, setFrom, setOf, IsEntry, IsSet}
 use Rattle.index.proofs.Range.{lt-or-le}
 use Rattle.index.proofs.Bytes.{number-small, count-number, count-out}
@@ -28,7 +28,7 @@ rises-set (next h l none) = IsSet.one h
 rises-set (next h l (next {e = f} k m r)) = IsSet.more {f = f} h (omega arith) (rises-set (next k m r))
 
 module _ {b : List ℕ} (g : Good b) (kind : Kind) where
-  count-fits : (i k : ℕ) → countAt b i k ≤ 65535
+  count-fits : (i k : ℕ) → countAt b i k ≤ greatestCount
   count-fits i k =
       ⊎-elim (λ h. omega (arith, count-number b i k h, number-small b (place i + 4 + 2 * k) (g .bytes))) (λ h. omega (arith, count-out b i k h))
       (lt-or-le k letterCount)

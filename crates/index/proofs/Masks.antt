@@ -6,7 +6,7 @@ use native.Mathlib.Omega.{arith}
 use native.Mathlib.Nat.{zero-div, div-eq-of-lt, eq-or-lt-of-le, pow-suc, one-mul, div-div-eq-div-mul}
 use lib.Bits.{bitAnd, bitOr, bitXor, or-shr, and-shr, or-step, and-step, or-lt, and-le-l, and-mask, xor-add-and}
 use lib.Pow.{pow-add, pow-lt, shl-shr}
-use Rattle.index.specs.Letters.{In}
+use Rattle.index.specs.Letters.{In, letterCount, rightCount, allRights}
 use Rattle.index.specs.Doors.{Mask}
 use Rattle.index.proofs.Range.{lt-or-le}
 
@@ -58,44 +58,44 @@ in-power k j = ((λ h. only h (lt-or-le j k)), (λ e. rw e own))
 
 -- ---- what holds of each of the four rights
 
-pub four : (P : ℕ → Type 0) → P 0 → P 1 → P 2 → P 3 → (k : ℕ) → k < 4 → P k
+pub four : (P : ℕ → Type 0) → P 0 → P 1 → P 2 → P 3 → (k : ℕ) → k < rightCount → P k
 four P a b c d zero h = a
 four P a b c d (suc zero) h = b
 four P a b c d (suc (suc zero)) h = c
 four P a b c d (suc (suc (suc zero))) h = d
 four P a b c d (suc (suc (suc (suc k)))) h = absurd (omega arith)
 
-pub in-fifteen : (k : ℕ) → k < 4 → In k 15
-in-fifteen = four (λ k. In k 15) refl refl refl refl
+pub in-all : (k : ℕ) → k < rightCount → In k allRights
+in-all = four (λ k. In k allRights) refl refl refl refl
 
 -- The formula of the net mask: a capital letter of m whose small letter m has not.
 abbrev netMask : ℕ → ℕ
-netMask m = bitAnd (bitAnd (bitXor (m / 16) 15) m) 15
+netMask m = bitAnd (bitAnd (bitXor (m / 2 ^ rightCount) allRights) m) allRights
 
 -- The small letters of m, the other way round.
-without : (m : ℕ) → m < 256 → (k : ℕ) → k < 4 → bitXor (m / 16) 15 / 2 ^ k % 2 + m / 2 ^ (k + 4) % 2 ≡ 1
+without : (m : ℕ) → m < 2 ^ letterCount → (k : ℕ) → k < rightCount → bitXor (m / 2 ^ rightCount) allRights / 2 ^ k % 2 + m / 2 ^ (k + rightCount) % 2 ≡ 1
 without m h =
-    let e : bitXor (m / 16) 15 ≡ 15 - m / 16 = omega (arith, xor-add-and (m / 16) 15, and-mask (m / 16) 4) in
+    let e : bitXor (m / 2 ^ rightCount) allRights ≡ allRights - m / 2 ^ rightCount = omega (arith, xor-add-and (m / 2 ^ rightCount) allRights, and-mask (m / 2 ^ rightCount) rightCount) in
     rw e
-    (four (λ k. (15 - m / 16) / 2 ^ k % 2 + m / 2 ^ (k + 4) % 2 ≡ 1) (omega arith) (omega arith) (omega arith) (omega arith))
+    (four (λ k. (allRights - m / 2 ^ rightCount) / 2 ^ k % 2 + m / 2 ^ (k + rightCount) % 2 ≡ 1) (omega arith) (omega arith) (omega arith) (omega arith))
 
-pub in-net : (m k : ℕ) → m < 256 → k < 4 → In k (netMask m) ↔ (In k m × (m / 2 ^ (k + 4) % 2 ≡ 0))
+pub in-net : (m k : ℕ) → m < 2 ^ letterCount → k < rightCount → In k (netMask m) ↔ (In k m × (m / 2 ^ (k + rightCount) % 2 ≡ 0))
 in-net m k hm hk =
-    let x = bitXor (m / 16) 15 in
+    let x = bitXor (m / 2 ^ rightCount) allRights in
     let w = without m hm k hk in (
-      (λ h. let p = in-and x m k .0 (in-and (bitAnd x m) 15 k .0 h .0) in (p .1, omega (arith, p .0))),
-      (λ h. in-and (bitAnd x m) 15 k .1 (in-and x m k .1 (omega (arith, h .1), h .0), in-fifteen k hk)),
+      (λ h. let p = in-and x m k .0 (in-and (bitAnd x m) allRights k .0 h .0) in (p .1, omega (arith, p .0))),
+      (λ h. in-and (bitAnd x m) allRights k .1 (in-and x m k .1 (omega (arith, h .1), h .0), in-all k hk)),
     )
 
 -- ---- masks
 
 -- A mask below 16 by its four letters.
-weight : (r : ℕ) → r < 16 → r ≡ r / 2 ^ 0 % 2 + 2 * (r / 2 ^ 1 % 2) + 4 * (r / 2 ^ 2 % 2) + 8 * (r / 2 ^ 3 % 2)
+weight : (r : ℕ) → r < 2 ^ rightCount → r ≡ r / 2 ^ 0 % 2 + 2 * (r / 2 ^ 1 % 2) + 4 * (r / 2 ^ 2 % 2) + 8 * (r / 2 ^ 3 % 2)
 weight r small = omega (arith, div-div-eq-div-mul r 2 2, div-div-eq-div-mul r 4 2, div-div-eq-div-mul r 8 2)
 
 module _ {r : ℕ} {P : ℕ → Type 0} (mask : Mask r P) where
   -- The same mask, said otherwise.
-  pub mask-map : (Q : ℕ → Type 0) → ((k : ℕ) → k < 4 → P k ↔ Q k) → Mask r Q
+  pub mask-map : (Q : ℕ → Type 0) → ((k : ℕ) → k < rightCount → P k ↔ Q k) → Mask r Q
   mask-map Q same = (mask .0, λ k h. ((λ i. same k h .0 (mask .1 k h .0 i)), (λ q. mask .1 k h .1 (same k h .1 q))))
 
   -- Those that are in s too.
@@ -111,26 +111,17 @@ module _ {r : ℕ} {P : ℕ → Type 0} (mask : Mask r P) where
   module _ {s : ℕ} {Q : ℕ → Type 0} (other : Mask s Q) where
     pub mask-either : Mask (bitOr r s) (λ k. P k ⊎ Q k)
     mask-either = (
-      or-lt 4 r s (mask .0) (other .0),
+      or-lt rightCount r s (mask .0) (other .0),
       λ k h. (
         (λ i. ⊎-elim (λ a. inl (mask .1 k h .0 a)) (λ b. inr (other .1 k h .0 b)) (in-or r s k .0 i)),
         (λ p. in-or r s k .1 (⊎-elim (λ a. inl (mask .1 k h .1 a)) (λ b. inr (other .1 k h .1 b)) p)),
       ),
     )
 
-    pub mask-both : Mask (bitAnd r s) (λ k. P k × Q k)
-    mask-both = (
-      mask-limited s .0,
-      λ k h. (
-        (λ i. let p = mask-limited s .1 k h .0 i in (p .0, other .1 k h .0 (p .1))),
-        (λ p. mask-limited s .1 k h .1 (p .0, other .1 k h .1 (p .1))),
-      ),
-    )
-
   -- Two masks of the same rights are one.
   pub mask-one : {s : ℕ} → Mask s P → r ≡ s
   mask-one {s} other =
-      let bit : (k : ℕ) → k < 4 → r / 2 ^ k % 2 ≡ s / 2 ^ k % 2 =
+      let bit : (k : ℕ) → k < rightCount → r / 2 ^ k % 2 ≡ s / 2 ^ k % 2 =
       λ k h. ⊎-elim
       (λ o. ⊎-elim (λ z. o ∙ sym z) (λ i. absurd (omega (arith, mask .1 k h .1 (other .1 k h .0 i)))) (in-or-out k s))
       (λ i. i ∙ sym (other .1 k h .1 (mask .1 k h .0 i))) (in-or-out k r) in
@@ -141,16 +132,16 @@ module _ {r : ℕ} {P : ℕ → Type 0} (mask : Mask r P) where
 pub mask-none : (P : ℕ → Type 0) → ((k : ℕ) → P k → ⊥) → Mask 0 P
 mask-none P none = (omega arith, λ k h. ((λ i. absurd (in-zero k i)), (λ p. absurd (none k p))))
 
-pub mask-all : (P : ℕ → Type 0) → ((k : ℕ) → P k) → Mask 15 P
-mask-all P all = (omega arith, λ k h. ((λ i. all k), (λ p. in-fifteen k h)))
+pub mask-all : (P : ℕ → Type 0) → ((k : ℕ) → P k) → Mask allRights P
+mask-all P all = (omega arith, λ k h. ((λ i. all k), (λ p. in-all k h)))
 
 -- A mask below 16 is that of its own rights.
-pub mask-self : (r : ℕ) → r < 16 → Mask r (λ k. In k r)
+pub mask-self : (r : ℕ) → r < 2 ^ rightCount → Mask r (λ k. In k r)
 mask-self r small = (small, λ k h. ((λ i. i), (λ i. i)))
 
 -- All of the rights asked for are in the mask.
-pub mask-covers : {r : ℕ} {P : ℕ → Type 0} (asked : ℕ) → asked < 16 → Mask r (λ k. P k × In k asked)
-    → (r ≡ asked) ↔ ((k : ℕ) → k < 4 → In k asked → P k)
+pub mask-covers : {r : ℕ} {P : ℕ → Type 0} (asked : ℕ) → asked < 2 ^ rightCount → Mask r (λ k. P k × In k asked)
+    → (r ≡ asked) ↔ ((k : ℕ) → k < rightCount → In k asked → P k)
 mask-covers {r} {P} asked small mask = (
   (λ e k h i. mask .1 k h .0 (rw e i) .0),
   (λ all. mask-one mask (mask-map (mask-self asked small) (λ k. P k × In k asked) (λ k h. ((λ i. (all k h i, i)), (λ p. p .1))))),

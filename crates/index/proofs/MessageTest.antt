@@ -9,32 +9,29 @@ use borrow.Author.Tests.{eqb-true, ltb-true, leb-true, eq-eqb}
 use lib.Dec.{eqb, ltb, leb}
 use lib.ListN.{length, getD}
 use Rattle.index.specs.Letters.{letterCount, lettersOf}
-use Rattle.index.specs.Block.{headerLength, greatestLength, Sized, Good, records, room}
-use Rattle.index.specs.Message.{IsKind, Half, flags, Blank, WellFormed, Named, Masked, Change, changes, standing, changeNeeds, Changed, Carried, previous, new}
+use Rattle.index.specs.Block.{greatestCount, nameCount, headerLength, greatestLength, Sized, Good, records, room}
+use Rattle.index.specs.Message.{IsKind, Half, flags, Blank, WellFormed, Named, Masked, Change, changes, ownCount, changeNeeds, Changed, Carried, previous, new}
 use Rattle.index.specs.Message.Change.{take, add}
 use Rattle.index.specs.Numbers.{Each}
 use Rattle.index.specs.Calls.{Message, messageNeeds, blockNeeds}
+use Rattle.index.specs.Edits.{bit}
 use Rattle.index.proofs.Tests.{both, all, all-at, some, some-at}
 use Rattle.index.proofs.GoodTest.{goodTest, good-test}
 use Rattle.index.proofs.ChangeTest.{changeTest, change-test}
 
 -- ---- what a change needs
 
--- 1 where letter k is in the half's mask, else 0.
-abbrev bit : Half → ℕ → ℕ
-bit h k = h .mask / 2 ^ k % 2
-
 abbrev needTest : Change → List ℕ → Bool
-needTest (take h) b = all (λ k. leb (bit h k) (standing b h k)) 0 letterCount
+needTest (take h) b = all (λ k. leb (bit (h .mask) k) (ownCount b h k)) 0 letterCount
 needTest (add h) b =
-    all (λ k. leb (standing b h k + bit h k) 65535) 0 letterCount
-    && cond (some (λ k. ltb 0 (standing b h k)) 0 letterCount) true (ltb (records b) (room b))
+    all (λ k. leb (ownCount b h k + bit (h .mask) k) greatestCount) 0 letterCount
+    && cond (some (λ k. ltb 0 (ownCount b h k)) 0 letterCount) true (ltb (records b) (room b))
 
-room-test : (b : List ℕ) (h : Half) (t : Bool) → some (λ k. ltb 0 (standing b h k)) 0 letterCount ≡ t
+room-test : (b : List ℕ) (h : Half) (t : Bool) → some (λ k. ltb 0 (ownCount b h k)) 0 letterCount ≡ t
     → cond t true (ltb (records b) (room b)) ≡ true
-    → ((k : ℕ) × (k < letterCount) × (0 < standing b h k)) ⊎ (records b < room b)
+    → ((k : ℕ) × (k < letterCount) × (0 < ownCount b h k)) ⊎ (records b < room b)
 room-test b h true q e =
-    let s = some-at (λ k. ltb 0 (standing b h k)) 0 letterCount q in
+    let s = some-at (λ k. ltb 0 (ownCount b h k)) 0 letterCount q in
     inl (s .0, omega (arith, s .1), ltb-true _ _ (s .2))
 room-test b h false q e = inr (ltb-true _ _ e)
 
@@ -53,14 +50,14 @@ step-test : (b₀ b d : List ℕ) (c : Change) (o : ℕ × List ℕ) (cs : List 
     → Carried b₀ (c ∷ cs) b o
 unfolding Carried changeNeeds
 step-test b₀ b d (take h) o cs e w r =
-    let f : ℕ → Bool = λ k. leb (h .mask / 2 ^ k % 2) (standing b h k) in
-    inr (λ k l i. omega (arith, leb-true (h .mask / 2 ^ k % 2) (standing b h k) (all-at f 0 letterCount e k (omega arith) (omega arith))), (d, w, r))
+    let f : ℕ → Bool = λ k. leb (h .mask / 2 ^ k % 2) (ownCount b h k) in
+    inr (λ k l i. omega (arith, leb-true (h .mask / 2 ^ k % 2) (ownCount b h k) (all-at f 0 letterCount e k (omega arith) (omega arith))), (d, w, r))
 step-test b₀ b d (add h) o cs e w r =
-    let f : ℕ → Bool = λ k. leb (standing b h k + h .mask / 2 ^ k % 2) 65535 in
+    let f : ℕ → Bool = λ k. leb (ownCount b h k + h .mask / 2 ^ k % 2) greatestCount in
     let p = both (all f 0 letterCount) _ e in
     inr (
       λ k l i.
-          omega (arith, leb-true (standing b h k + h .mask / 2 ^ k % 2) 65535 (all-at f 0 letterCount (p .0) k (omega arith) (omega arith))),
+          omega (arith, leb-true (ownCount b h k + h .mask / 2 ^ k % 2) greatestCount (all-at f 0 letterCount (p .0) k (omega arith) (omega arith))),
       inr (room-test b h _ refl (p .1), (d, w, r)),
     )
 
@@ -111,15 +108,15 @@ form-test m e =
 abbrev halvesTest : List Half → Bool
 halvesTest [] = true
 halvesTest (h ∷ hs) =
-    ltb (h .key) 1024
-    && (ltb (h .id) 1024 && (ltb 0 (h .mask) && (ltb (h .mask) (2 ^ lettersOf (h .kind)) && halvesTest hs)))
+    ltb (h .key) nameCount
+    && (ltb (h .id) nameCount && (ltb 0 (h .mask) && (ltb (h .mask) (2 ^ lettersOf (h .kind)) && halvesTest hs)))
 
 halves-test : (hs : List Half) → halvesTest hs ≡ true → Each Named hs × Each Masked hs
 unfolding Named Masked
 halves-test [] e = (tt, tt)
 halves-test (h ∷ hs) e =
-    let p = both (ltb (h .key) 1024) _ e in
-    let q = both (ltb (h .id) 1024) _ (p .1) in
+    let p = both (ltb (h .key) nameCount) _ e in
+    let q = both (ltb (h .id) nameCount) _ (p .1) in
     let r = both (ltb 0 (h .mask)) _ (q .1) in
     let s = both (ltb (h .mask) (2 ^ lettersOf (h .kind))) (halvesTest hs) (r .1) in
     let w = halves-test hs (s .1) in

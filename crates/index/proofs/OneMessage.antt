@@ -33,7 +33,7 @@ pub one-list : (b cs : List ℕ) (o o′ : ℕ × List ℕ) → CarriesOut b cs 
 unfolding CarriesOut
 one-list b cs = one-first (λ n. (n, b)) (listNeeds b cs) (Carried b (changesIn cs) b) (one-run b (changesIn cs) b)
 
-changes-positive : (c : Change) (b : List ℕ) → Positive (changeNeeds c b)
+pub changes-positive : (c : Change) (b : List ℕ) → Positive (changeNeeds c b)
 unfolding changeNeeds
 changes-positive (Change.take h) b = omega arith
 changes-positive (Change.add h) b = omega arith

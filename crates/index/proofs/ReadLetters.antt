@@ -11,12 +11,13 @@ use borrow.Author.Tests.{le-ltb, eq-eqb, ne-eqb, ltb-false, eqb-true}
 use Rattle.index.specs.Letters.{letters}
 use Rattle.index.specs.Text.{decimal, pieceOf, piecesOf}
 use Rattle.index.specs.Reading.{digit, readCount, readLetter, readCounts}
-use Rattle.index.specs.Reading.Read.{got}
+use Rattle.index.specs.Reading.Parsed.{got}
 use Rattle.index.proofs.Digits.{digits-long}
 use Rattle.index.proofs.Decimal.{first, digit-yes, digit-high, spelt, Spells}
 use Rattle.index.proofs.Decimal.Spells.{spells}
 use Rattle.index.proofs.TakenApart.{and-inv, cond-inv, and-true}
 use Rattle.index.proofs.ReadNumbers.{spells-complete, number-sound}
+use Rattle.index.specs.Block.{greatestCount}
 
 pub piece-one : (l : ℕ) → pieceOf l 1 ≡ l ∷ []
 unfolding pieceOf
@@ -32,19 +33,19 @@ piece-many l ℕ.zero h = absurd (omega arith)
 piece-many l (suc ℕ.zero) h = absurd (omega arith)
 piece-many l (suc (suc c)) h = refl
 
-count-complete : (n : ℕ) {t : List ℕ} (r : List ℕ) → Spells n t → length t ≤ 5 → 2 ≤ n → n ≤ 65535 → digit (first r) ≡ false
+count-complete : (n : ℕ) {t : List ℕ} (r : List ℕ) → Spells n t → length t ≤ 5 → 2 ≤ n → n ≤ greatestCount → digit (first r) ≡ false
     → readCount (t ++ r) ≡ got n r
 unfolding readCount
 count-complete n r (spells b t l u ds v) j k h d =
     let g : digit b ≡ true = digit-yes b (omega arith) u in
-    simp g (spells-complete 2 65535 n r (spells b t l u ds v) j k h d)
+    simp g (spells-complete 2 greatestCount n r (spells b t l u ds v) j k h d)
 
 letter-none : (l : ℕ) (r : List ℕ) → readLetter false l r ≡ got 0 r
 unfolding readLetter
 letter-none l [] = refl
 letter-none l (b ∷ r) = refl
 
-pub letter-complete : (may : Bool) (l c : ℕ) (r : List ℕ) → (may ≡ false → c ≡ 0) → c ≤ 65535 → digit (first r) ≡ false → (first r ≡ l → ⊥)
+pub letter-complete : (may : Bool) (l c : ℕ) (r : List ℕ) → (may ≡ false → c ≡ 0) → c ≤ greatestCount → digit (first r) ≡ false → (first r ≡ l → ⊥)
     → readLetter may l (pieceOf l c ++ r) ≡ got c r
 unfolding readLetter pieceOf
 letter-complete false l c r n h d m = rw (n refl) (letter-none l r)
@@ -56,14 +57,14 @@ letter-complete true l (suc (suc c)) r n h d m =
     simp (eq-eqb l l refl)
     (unfold decimal in count-complete (suc (suc c)) r (spelt 4 (suc (suc c)) (omega arith) (omega arith)) (digits-long 5 (suc (suc c))) (omega arith) h d)
 
-count-sound : (t : List ℕ) {c : ℕ} {r : List ℕ} → readCount t ≡ got c r → (l : ℕ) → (l ∷ t ≡ pieceOf l c ++ r) × (c ≤ 65535)
+count-sound : (t : List ℕ) {c : ℕ} {r : List ℕ} → readCount t ≡ got c r → (l : ℕ) → (l ∷ t ≡ pieceOf l c ++ r) × (c ≤ greatestCount)
 unfolding readCount
 count-sound [] {c} {r} e l =
     let p : 1 ≡ c = cc in let q : _≡_ {A = List ℕ} [] r = cc in (rw (← p, ← q) (unfold pieceOf in refl), omega arith)
 count-sound (b ∷ t) {c} {r} e l =
     ⊎-elim
     (λ w.
-    let ns = number-sound 2 65535 (omega arith) (b ∷ t) (w .1) in
+    let ns = number-sound 2 greatestCount (omega arith) (b ∷ t) (w .1) in
     (ap (λ (x : List ℕ). l ∷ x) (ns .0) ∙ ap (λ (x : List ℕ). x ++ r) (piece-many l c (ns .2)), ns .1))
     (λ w.
     let f = w .1 in
@@ -74,7 +75,7 @@ count-sound (b ∷ t) {c} {r} e l =
 
 -- what reading a letter finds: its count c, with r left
 abbrev Piece : Bool → ℕ → List ℕ → ℕ → List ℕ → Type 0
-Piece may l t c r = (t ≡ pieceOf l c ++ r) × (c ≤ 65535) × (may ≡ false → c ≡ 0)
+Piece may l t c r = (t ≡ pieceOf l c ++ r) × (c ≤ greatestCount) × (may ≡ false → c ≡ 0)
 
 no-piece : (may : Bool) (l : ℕ) (t : List ℕ) {c : ℕ} {r : List ℕ} → got 0 t ≡ got c r → Piece may l t c r
 no-piece may l t {c} {r} e =
@@ -126,7 +127,7 @@ all-high (l ∷ ls) a = (omega arith, all-high ls (a .2))
 test-zero : (n : ℕ) → ltb 0 n ≡ false → n ≡ 0
 test-zero n e = omega (arith, ltb-false 0 n e)
 
-pub counts-complete : (n : ℕ) (ls cs r : List ℕ) → Apart ls → length cs ≡ length ls → ((k : ℕ) → getD cs k 0 ≤ 65535)
+pub counts-complete : (n : ℕ) (ls cs r : List ℕ) → Apart ls → length cs ≡ length ls → ((k : ℕ) → getD cs k 0 ≤ greatestCount)
     → ((k : ℕ) → n ≤ k → getD cs k 0 ≡ 0) → first r ≡ 59 → readCounts n ls (piecesOf ls cs ++ r) ≡ got cs r
 unfolding readCounts piecesOf
 counts-complete n [] [] r a e f z h = refl
@@ -144,9 +145,9 @@ counts-complete n (l ∷ ls) (c ∷ cs) r a e f z h =
 -- what reading the counts of the letters ls finds: cs, with r left
 abbrev pub Counts : ℕ → List ℕ → List ℕ → List ℕ → List ℕ → Type 0
 Counts n ls t cs r =
-    (t ≡ piecesOf ls cs ++ r) × (length cs ≡ length ls) × ((k : ℕ) → getD cs k 0 ≤ 65535) × ((k : ℕ) → n ≤ k → getD cs k 0 ≡ 0)
+    (t ≡ piecesOf ls cs ++ r) × (length cs ≡ length ls) × ((k : ℕ) → getD cs k 0 ≤ greatestCount) × ((k : ℕ) → n ≤ k → getD cs k 0 ≡ 0)
 
-pub cons-bound : (c : ℕ) (cs : List ℕ) → c ≤ 65535 → ((k : ℕ) → getD cs k 0 ≤ 65535) → (k : ℕ) → getD (c ∷ cs) k 0 ≤ 65535
+pub cons-bound : (c : ℕ) (cs : List ℕ) → c ≤ greatestCount → ((k : ℕ) → getD cs k 0 ≤ greatestCount) → (k : ℕ) → getD (c ∷ cs) k 0 ≤ greatestCount
 cons-bound c cs h f ℕ.zero = h
 cons-bound c cs h f (suc k) = f k
 

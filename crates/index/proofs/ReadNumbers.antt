@@ -10,7 +10,7 @@ use native.Mathlib.Omega.{arith}
 use borrow.Author.Tests.{le-leb, eq-eqb, ne-eqb, leb-true, eqb-true, eqb-false}
 use Rattle.index.specs.Text.{digitsOf, decimal}
 use Rattle.index.specs.Reading.{digit, reaches, begins, ends, readDigits, readNumber}
-use Rattle.index.specs.Reading.Read.{got, wrong}
+use Rattle.index.specs.Reading.Parsed.{got, wrong}
 use Rattle.index.proofs.Digits.{digits-long}
 use Rattle.index.proofs.Decimal.{first, digit-yes, digit-bounds, decimal-snoc, decimal-small, decimal-zero, spelt, value, value-ge, Digits, Spells}
 use Rattle.index.proofs.Decimal.Digits.{none, next}

@@ -10,12 +10,13 @@ use borrow.Author.Tests.{lt-ltb, ltb-true, eqb-true}
 use Rattle.index.specs.declared.Kind.{Kind}
 use Rattle.index.specs.Letters.{letterCount, letters, lettersOf}
 use Rattle.index.specs.Text.{Entry, decimal, piecesOf, entryText, textOf, IsEntry, IsSet, Writes}
-use Rattle.index.specs.Reading.{Read, andThen, readNumber, readCounts, readMark, total, readRecord, readMore, readRecords, parse}
-use Rattle.index.specs.Reading.Read.{got}
+use Rattle.index.specs.Reading.{Parsed, andThen, readNumber, readCounts, readMark, total, readRecord, readMore, readRecords, parse}
+use Rattle.index.specs.Reading.Parsed.{got}
 use Rattle.index.proofs.Decimal.{first, digit-high}
 use Rattle.index.proofs.TakenApart.{and-inv, guard-inv, and-true, not-got}
 use Rattle.index.proofs.ReadNumbers.{Number, number-complete, number-sound}
 use Rattle.index.proofs.ReadLetters.{Counts, counts-complete, counts-sound, letters-apart}
+use Rattle.index.specs.Block.{greatestName, nameCount}
 
 -- ---- a record
 
@@ -58,7 +59,7 @@ record-complete kind least e r h l k =
     let (i, g) = h .counted in
     rw (entry-text e r)
     (simp (
-      number-complete least 1023 (e .id) (59 ∷ (piecesOf letters (e .counts) ++ r)) l (omega (arith, h .named)) (omega (arith, h .named)) (digit-high 59 (omega arith)),
+      number-complete least greatestName (e .id) (59 ∷ (piecesOf letters (e .counts) ++ r)) l (omega (arith, h .named)) (omega (arith, h .named)) (digit-high 59 (omega arith)),
       mark-complete,
       counts-complete (lettersOf kind) letters (e .counts) r letters-apart (h .eight ∙ sym eight-letters) (h .fits) (h .allowed) k,
       lt-ltb 0 (total (e .counts)) (some-total (e .counts) i g),
@@ -70,7 +71,7 @@ pub record ReadsEntry (kind : Kind) (least : ℕ) (t : List ℕ) (e : Entry) (r 
   pub entry : IsEntry kind e
   pub above : least ≤ e .id
 
-reads-entry : (kind : Kind) (least i : ℕ) (cs t s u r : List ℕ) → Number least 1023 t i s → s ≡ 59 ∷ u
+reads-entry : (kind : Kind) (least i : ℕ) (cs t s u r : List ℕ) → Number least greatestName t i s → s ≡ 59 ∷ u
     → Counts (lettersOf kind) letters u cs r → 0 < total cs → ReadsEntry kind least t (record { id = i; counts = cs }) r
 reads-entry kind least i cs t s u r a m c f =
     record {
@@ -90,7 +91,7 @@ pub record-sound : (kind : Kind) (least : ℕ) (t : List ℕ) {e : Entry} {r : L
     → ReadsEntry kind least t e r
 unfolding readRecord
 record-sound kind least t {e} {r} h =
-    let (i, s, p₀, q₀) = and-inv (readNumber least 1023 t) _ h in
+    let (i, s, p₀, q₀) = and-inv (readNumber least greatestName t) _ h in
     let (m, u, p₁, q₁) = and-inv (readMark s) _ q₀ in
     let (cs, w, p₂, q₂) = and-inv (readCounts (lettersOf kind) letters u) _ q₁ in
     let g = guard-inv (ltb 0 (total cs)) _ _ q₂ in
@@ -98,7 +99,7 @@ record-sound kind least t {e} {r} h =
     let x : record { id = i; counts = cs } ≡ e = cc in
     let y : w ≡ r = cc in
     subst₂ (λ (x : Entry) (y : List ℕ). ReadsEntry kind least t x y) x y
-    (reads-entry kind least i cs t s u w (number-sound least 1023 (omega arith) t p₀) (mark-sound s p₁) (counts-sound (lettersOf kind) letters u p₂)
+    (reads-entry kind least i cs t s u w (number-sound least greatestName (omega arith) t p₀) (mark-sound s p₁) (counts-sound (lettersOf kind) letters u p₂)
     (ltb-true 0 (total cs) (g .0)))
 
 -- ---- a set
@@ -107,11 +108,11 @@ pub head-entry : {kind : Kind} {e : Entry} {es : List Entry} → IsSet kind (e �
 head-entry (IsSet.one h) = h
 head-entry (IsSet.more h l s) = h
 
-few : {kind : Kind} {e : Entry} {es : List Entry} → IsSet kind (e ∷ es) → length (e ∷ es) + e .id ≤ 1024
+few : {kind : Kind} {e : Entry} {es : List Entry} → IsSet kind (e ∷ es) → length (e ∷ es) + e .id ≤ nameCount
 few (IsSet.one h) = omega (arith, h .named)
 few (IsSet.more h l s) = omega (arith, few s)
 
-pub set-few : {kind : Kind} {es : List Entry} → IsSet kind es → length es ≤ 1024
+pub set-few : {kind : Kind} {es : List Entry} → IsSet kind es → length es ≤ nameCount
 set-few IsSet.empty = omega arith
 set-few (IsSet.one h) = omega arith
 set-few (IsSet.more {e = e} h l s) = omega (arith, few (IsSet.more h l s))
@@ -123,8 +124,8 @@ set-complete ℕ.zero kind least h l k = absurd (omega arith)
 set-complete (suc f) kind least {e} (IsSet.one h) l k =
     rw (← append-nil (entryText e)) (simp (record-complete kind least e [] h l refl))
 set-complete (suc f) kind least {e} (IsSet.more {f = g} {es = gs} h u s) l k =
-    simp (record-complete kind least e (59 ∷ textOf (g ∷ gs)) h l refl, lt-ltb (e .id) 1023 (omega (arith, head-entry s .named)))
-    (ap (λ (x : Read (List Entry)). andThen x (λ es r. got (e ∷ es) r)) (set-complete f kind (e .id + 1) s (omega arith) (omega arith)))
+    simp (record-complete kind least e (59 ∷ textOf (g ∷ gs)) h l refl, lt-ltb (e .id) greatestName (omega (arith, head-entry s .named)))
+    (ap (λ (x : Parsed (List Entry)). andThen x (λ es r. got (e ∷ es) r)) (set-complete f kind (e .id + 1) s (omega arith) (omega arith)))
 
 -- what reading records finds: one or more, that the whole of t is the text of
 data ReadsSet (kind : Kind) (least : ℕ) (t : List ℕ) : List Entry → Type 0 where
@@ -141,7 +142,7 @@ reads-more kind least t e s h (reads f es i l x) =
     reads e (f ∷ es) (IsSet.more {f = f} (h .entry) (omega arith) i) (h .above)
     (ap (λ (u : List ℕ). entryText e ++ (59 ∷ u)) x ∙ sym (h .text))
 
-more-sound : (kind : Kind) (least : ℕ) (t : List ℕ) (e : Entry) (r : List ℕ) (rest : List ℕ → Read (List Entry)) {es : List Entry}
+more-sound : (kind : Kind) (least : ℕ) (t : List ℕ) (e : Entry) (r : List ℕ) (rest : List ℕ → Parsed (List Entry)) {es : List Entry}
     {u : List ℕ} → ReadsEntry kind least t e r
     → ((s : List ℕ) (gs : List Entry) (v : List ℕ) → rest s ≡ got gs v → ReadsSet kind (e .id + 1) s gs)
     → readMore e r rest ≡ got es u → ReadsSet kind least t es
@@ -149,10 +150,10 @@ unfolding readMore
 more-sound kind least t e [] rest {es} {u} h ih q =
     let x : e ∷ [] ≡ es = cc in subst (λ (z : List Entry). ReadsSet kind least t z) x (reads-last kind least t e h)
 more-sound kind least t e (b ∷ s) rest {es} {u} h ih q =
-    let g = guard-inv (ltb (e .id) 1023 && eqb b 59) _ _ q in
+    let g = guard-inv (ltb (e .id) greatestName && eqb b 59) _ _ q in
     let (gs, v, p, q') = and-inv (rest s) _ (g .1) in
     let x : e ∷ gs ≡ es = cc in
-    let z : b ≡ 59 = eqb-true b 59 (and-true (ltb (e .id) 1023) _ (g .0) .1) in
+    let z : b ≡ 59 = eqb-true b 59 (and-true (ltb (e .id) greatestName) _ (g .0) .1) in
     let h' : ReadsEntry kind least t e (59 ∷ s) = subst (λ (y : ℕ). ReadsEntry kind least t e (y ∷ s)) z h in
     subst (λ (z : List Entry). ReadsSet kind least t z) x (reads-more kind least t e s h' (ih s gs v p))
 
@@ -171,7 +172,7 @@ pub long-entry : (e : Entry) → 0 < length (entryText e)
 unfolding entryText
 long-entry e = omega (arith, length-append (decimal (e .id)) (59 ∷ piecesOf letters (e .counts)))
 
-pub parse-some : (kind : Kind) (t : List ℕ) → 0 < length t → parse kind t ≡ readRecords 1024 kind 0 t
+pub parse-some : (kind : Kind) (t : List ℕ) → 0 < length t → parse kind t ≡ readRecords nameCount kind 0 t
 unfolding parse
 parse-some kind [] h = absurd (omega arith)
 parse-some kind (b ∷ t) h = refl
@@ -184,7 +185,7 @@ long-text e (f ∷ es) = omega (arith, length-append (entryText e) (59 ∷ textO
 pub parse-complete : (kind : Kind) (es : List Entry) → IsSet kind es → parse kind (textOf es) ≡ got es []
 parse-complete kind [] h = unfold parse textOf in refl
 parse-complete kind (e ∷ es) h =
-    parse-some kind (textOf (e ∷ es)) (long-text e es) ∙ set-complete 1024 kind 0 h (omega arith) (omega (arith, few h))
+    parse-some kind (textOf (e ∷ es)) (long-text e es) ∙ set-complete nameCount kind 0 h (omega arith) (omega (arith, few h))
 
 reads-writes : (kind : Kind) (least : ℕ) (t : List ℕ) {es : List Entry} → ReadsSet kind least t es → Writes kind es t
 unfolding Writes
@@ -195,4 +196,4 @@ unfolding parse
 parse-sound kind [] {es} q =
     let x : _≡_ {A = List Entry} [] es = cc in
     subst (λ (z : List Entry). Writes kind z []) x (unfold Writes textOf in (IsSet.empty, refl))
-parse-sound kind (b ∷ t) q = reads-writes kind 0 (b ∷ t) (set-sound 1024 kind 0 (b ∷ t) q)
+parse-sound kind (b ∷ t) q = reads-writes kind 0 (b ∷ t) (set-sound nameCount kind 0 (b ∷ t) q)

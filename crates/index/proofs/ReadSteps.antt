@@ -9,9 +9,10 @@ use Rattle.index.specs.Letters.{letterCount, letters}
 use lib.Dec.{ltb, leb}
 use native.Mathlib.Numerals.{add-one}
 use borrow.Author.Tests.{lt-ltb, le-leb, lt-leb, eq-eqb, ne-eqb}
-use Rattle.index.specs.Reading.{Read, andThen, digit, reaches, begins, ends, readDigits, readNumber, readCount, readLetter, readCounts, readMark, total}
+use Rattle.index.specs.Reading.{Parsed, andThen, digit, reaches, begins, ends, readDigits, readNumber, readCount, readLetter, readCounts, readMark, total}
 use native.Mathlib.Omega.{arith}
-use Rattle.index.specs.Reading.Read.{got, wrong}
+use Rattle.index.specs.Reading.Parsed.{got, wrong}
+use Rattle.index.specs.Block.{greatestCount}
 
 pub and-false : (a : Bool) → (a && false) ≡ false
 and-false true = refl
@@ -108,7 +109,7 @@ module _ (t : List ℕ) (at : ℕ) where
   unfolding readCount
   count-none h d = rw (front h) (simp d)
 
-  pub count-number : at < length t → digit (getD t at 0) ≡ true → readCount (drop at t) ≡ readNumber 2 65535 (drop at t)
+  pub count-number : at < length t → digit (getD t at 0) ≡ true → readCount (drop at t) ≡ readNumber 2 greatestCount (drop at t)
   unfolding readCount
   count-number h d = rw (front h) (simp d)
 
@@ -171,14 +172,14 @@ module _ (may k : ℕ) (h : k < letterCount) (t : List ℕ) where
       let z : may - k - 1 ≡ may - (k + 1) = omega arith in rw (letters-from k h) (simp (e, z))
 
 -- what is read from letter k on, after the counts in out
-abbrev pub after : List ℕ → ℕ → Read (List ℕ) → Read (List ℕ)
+abbrev pub after : List ℕ → ℕ → Parsed (List ℕ) → Parsed (List ℕ)
 after out k x = andThen x (λ cs r. got (take k out ++ cs) r)
 
-pub after-none : (out : List ℕ) (x : Read (List ℕ)) → x ≡ after out 0 x
+pub after-none : (out : List ℕ) (x : Parsed (List ℕ)) → x ≡ after out 0 x
 after-none out (got cs r) = refl
 after-none out (wrong s) = refl
 
-after-next : (out : List ℕ) (k n : ℕ) (x : Read (List ℕ)) → k < length out
+after-next : (out : List ℕ) (k n : ℕ) (x : Parsed (List ℕ)) → k < length out
     → after out k (andThen x (λ cs s. got (n ∷ cs) s)) ≡ after (set out k n) (k + 1) x
 after-next out k n (got cs r) h =
     ap (λ (l : List ℕ). got l r)
@@ -200,4 +201,4 @@ module _ (out : List ℕ) (may k : ℕ) (h : k < letterCount) (t : List ℕ) whe
 pub after-all : (out : List ℕ) (n k : ℕ) (t : List ℕ) → length out ≡ letterCount → k ≡ letterCount → after out k (readCounts n (drop k letters) t) ≡ got out t
 unfolding readCounts letters
 after-all out n k t l e =
-    rw e (ap (λ (x : List ℕ). got x t) (append-nil (take 8 out) ∙ take-all 8 out (omega arith)))
+    rw e (ap (λ (x : List ℕ). got x t) (append-nil (take letterCount out) ∙ take-all letterCount out (omega arith)))

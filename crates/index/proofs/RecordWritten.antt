@@ -6,11 +6,11 @@ use native.Mathlib.Omega.{arith}
 use Rattle.index.specs.Letters.{letterCount}
 use Rattle.index.specs.Block.{recordLength, number, place, countAt}
 use Rattle.index.specs.Bytes.{Put}
-use Rattle.index.specs.Edits.{Filled, Recounted, Written, Allows}
+use Rattle.index.specs.Edits.{Overwritten, Recounted, NewRecord, Allows}
 use Rattle.index.proofs.Bytes.{count-number, inside-then, inside-wide, number-below}
 use Rattle.index.proofs.HalfLetters.{bit-zero}
 
-module _ (i : ℕ) {b b′ : List ℕ} (w : Filled (place i + 4) (place i + recordLength) (λ u. 0) b b′) where
+module _ (i : ℕ) {b b′ : List ℕ} (w : Overwritten (place i + 4) (place i + recordLength) (λ u. 0) b b′) where
   cleared : (k : ℕ) → k < letterCount → countAt b′ i k ≡ 0
   unfolding number
   cleared k l =
@@ -21,7 +21,7 @@ module _ (i : ℕ) {b b′ : List ℕ} (w : Filled (place i + 4) (place i + reco
   cleared-allows mask k l = omega (arith, cleared k l, bit-zero k)
 
   pub written-is : {x y mask : ℕ} {b₀ b₁ b₂ : List ℕ} → Put (place i) x b₀ b₁ → Put (place i + 2) y b₁ b → Recounted i 0 mask b′ b₂
-      → Written i x y mask b₀ b₂
+      → NewRecord i x y mask b₀ b₂
   written-is p q c =
       record {
         rest =

@@ -13,15 +13,15 @@ use lib.Dec.{eqb}
 use lib.ListN.{length, getD}
 use Rattle.index.specs.declared.Kind.{Kind}
 use Rattle.index.specs.declared.Kind.the-variants.{Membership, Permission, Filter}
-use Rattle.index.specs.Block.{number, size, from, records, key, id, countAt, countFrom, count, Of, Before, Good}
+use Rattle.index.specs.Block.{nameCount, number, size, from, records, key, id, countAt, countFrom, count, Of, Before, Good}
 use Rattle.index.specs.Places.{spot, At}
 use Rattle.index.proofs.Range.{lt-or-le}
 
-pub before-spot : (b : List ℕ) (i j : ℕ) → id b i < 1024 → Before b i j → spot b i < spot b j
+pub before-spot : (b : List ℕ) (i j : ℕ) → id b i < nameCount → Before b i j → spot b i < spot b j
 unfolding Before
 before-spot b i j h = ⊎-elim (λ l. omega arith) (λ e. omega arith)
 
-pub spot-before : (b : List ℕ) (i j : ℕ) → id b j < 1024 → spot b i < spot b j → Before b i j
+pub spot-before : (b : List ℕ) (i j : ℕ) → id b j < nameCount → spot b i < spot b j → Before b i j
 unfolding Before
 spot-before b i j h l = ⊎-elim (λ k. inl k) (λ k. inr (omega arith)) (lt-or-le (key b i) (key b j))
 

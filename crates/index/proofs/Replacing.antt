@@ -7,7 +7,7 @@ use native.Mathlib.Omega.{arith}
 use lib.ListN.{length, getD}
 use Rattle.index.specs.declared.Kind.{Kind}
 use Rattle.index.specs.declared.Kind.the-variants.{Membership, Permission, Filter}
-use Rattle.index.specs.Block.{IsName, id, countAt, countFrom, Of, Good, count}
+use Rattle.index.specs.Block.{nameCount, IsName, id, countAt, countFrom, Of, Good, count}
 use Rattle.index.specs.Text.{Entry, setFrom, IsEntry, IsSet, countIn, Replaced}
 use Rattle.index.specs.Places.{spot, At}
 use Rattle.index.specs.Checks.{Record}
@@ -75,8 +75,8 @@ module _
     (g : Good b)
     (kind : Kind)
     (x lo hi : ℕ)
-    (p : Lowest b kind (1024 * x) lo)
-    (q : Lowest b kind (1024 * (x + 1)) hi)
+    (p : Lowest b kind (nameCount * x) lo)
+    (q : Lowest b kind (nameCount * (x + 1)) hi)
     (es : List Entry)
     (is-set : IsSet kind es)
     (named : IsName x)
@@ -90,10 +90,10 @@ module _
   came : (i : ℕ) → lo ≤ i → i < lo + length es → Stands b′ x i (entryOf es (i - lo))
   came i l h = let z : lo + (i - lo) ≡ i = omega arith in rw z at (f .stand (i - lo) (omega arith))
 
-  came-id : (i : ℕ) → lo ≤ i → i < lo + length es → id b′ i < 1024
+  came-id : (i : ℕ) → lo ≤ i → i < lo + length es → id b′ i < nameCount
   came-id i l h = omega (arith, stands-id (came i l h), set-entry es (i - lo) is-set (omega arith) .named)
 
-  came-spot : (i : ℕ) → lo ≤ i → i < lo + length es → (1024 * x ≤ spot b′ i) × (spot b′ i < 1024 * (x + 1))
+  came-spot : (i : ℕ) → lo ≤ i → i < lo + length es → (nameCount * x ≤ spot b′ i) × (spot b′ i < nameCount * (x + 1))
   came-spot i l h = omega (arith, came i l h .has-key, came-id i l h)
 
   fits : Fits kind lo (hi - lo) (length es) b b′
@@ -187,7 +187,7 @@ module _
             (λ i m h a. ne (one-kind K kind b′ i (a .of) (spliced-of g spliced fits bytes i m h)));
       }
 
-pub replaced : {b b₁ b′ : List ℕ} → Good b → (kind : Kind) (x lo hi : ℕ) → Lowest b kind (1024 * x) lo → Lowest b kind (1024 * (x + 1)) hi
+pub replaced : {b b₁ b′ : List ℕ} → Good b → (kind : Kind) (x lo hi : ℕ) → Lowest b kind (nameCount * x) lo → Lowest b kind (nameCount * (x + 1)) hi
     → (es : List Entry) → IsSet kind es → IsName x → (n : ℕ) → length es ≡ n → Spliced kind lo (hi - lo) n b b₁ → Filled x lo es n b₁ b′
     → ((t : ℕ) → getD b′ t 0 < 256) → Replaced kind x es b b′
 replaced {b₁ = b₁} g kind x lo hi p q es i m n e s f = whole {b₁ = b₁} g kind x lo hi p q es i m (rw e s) (rw e f)

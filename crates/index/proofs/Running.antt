@@ -12,7 +12,7 @@ use Rattle.index.specs.declared.Kind.{Kind}
 use Rattle.index.specs.Letters.{letterCount}
 use Rattle.index.specs.Block.{headerLength, recordLength, count, records, room, Good}
 use Rattle.index.specs.Numbers.{Answers}
-use Rattle.index.specs.Message.{Half, Change, Changed, taken, added, standing, changeNeeds, Carried}
+use Rattle.index.specs.Message.{Half, Change, Changed, taken, added, ownCount, changeNeeds, Carried}
 use Rattle.index.specs.Message.Change.{take, add}
 use Rattle.index.specs.Listed.{kindIn, halfIn, changeIn, changesIn}
 use Rattle.index.specs.Edits.{Ready, Step, Prepared, Went}
@@ -20,8 +20,8 @@ use Rattle.index.specs.Edits.Went.{nothing, next}
 use Rattle.index.proofs.Bytes.{count-small}
 use Rattle.index.proofs.Canonical.{canonical}
 use Rattle.index.proofs.HalfLetters.{bit-zero, halfOf, change-own}
-use Rattle.index.proofs.Firsts.{Positive}
 use Rattle.index.proofs.Firsts.{All, first-all, first-sure, first-passed, first-refused, refuses}
+use Rattle.index.proofs.OneMessage.{changes-positive}
 use Rattle.index.proofs.Records.{of-records, where-is, count-at, count-none}
 
 -- ---- a change, and a run that begins with it
@@ -29,15 +29,10 @@ use Rattle.index.proofs.Records.{of-records, where-is, count-at, count-
 abbrev Done : Change → List ℕ → ℕ × List ℕ → Type 0
 Done c b o = (o .0 ≡ 0) × Changed c b (o .1)
 
-positive : (c : Change) (b : List ℕ) → Positive (changeNeeds c b)
-unfolding changeNeeds
-positive (take h) b = omega arith
-positive (add h) b = omega arith
-
 module _ {c : Change} {b : List ℕ} {r : ℕ} {b′ : List ℕ} (s : Step c b r b′) where
   step-done : r ≡ 0 → All (changeNeeds c b) × Changed c b b′
   step-done e =
-      let p = first-passed (λ n. (n, b)) (Done c b) (r, b′) (λ o. o .0) (λ n. refl) (changeNeeds c b) (positive c b) e (s .outcome) in
+      let p = first-passed (λ n. (n, b)) (Done c b) (r, b′) (λ o. o .0) (λ n. refl) (changeNeeds c b) (changes-positive c b) e (s .outcome) in
       (p .0, p .1 .1)
 
   step-refused : (r ≡ 0 → ⊥) → Answers (changeNeeds c b) r × (b′ ≡ b)
@@ -78,9 +73,9 @@ count-below {b} g kind x y k =
 
 -- The half's record is there still, or there is room for it again.
 there : (h : Half) {b b₁ : List ℕ} → Good b → Changed (take h) b b₁
-    → (((k : ℕ) → k < letterCount → standing b₁ h k ≡ 0) → records b₁ < records b)
-    → ((k : ℕ) × (k < letterCount) × (0 < standing b₁ h k)) ⊎ (records b₁ < room b₁)
-unfolding standing room
+    → (((k : ℕ) → k < letterCount → ownCount b₁ h k ≡ 0) → records b₁ < records b)
+    → ((k : ℕ) × (k < letterCount) × (0 < ownCount b₁ h k)) ⊎ (records b₁ < room b₁)
+unfolding ownCount room
 there h {b} {b₁} g d freed =
     ⊎-elim
     (λ p.
@@ -91,7 +86,7 @@ there h {b} {b₁} g d freed =
     (where-is b₁ (h .key) (h .id) (h .kind))
 
 back-needs : (c : Change) {b b₁ : List ℕ} → Good b → Step c b 0 b₁ → All (changeNeeds (back c) b₁)
-unfolding changeNeeds standing
+unfolding changeNeeds ownCount
 back-needs (take h) {b} {b₁} g s =
     let d = step-done s refl .1 in (
       λ k l i.

@@ -9,43 +9,41 @@ use native.Mathlib.Omega.{arith}
 use borrow.Author.Tests.{lt-ltb, le-ltb}
 use Rattle.index.specs.declared.Kind.{Kind}
 use Rattle.index.specs.Text.{Entry, entryText, IsSet, Writes}
-use Rattle.index.specs.declared.reading.Cursor.{Cursor}
-use Rattle.index.specs.declared.reading.Piece.{Piece}
-use Rattle.index.specs.declared.reading.Piece.the-variants.{Found, Wrong}
-use Rattle.index.specs.Pieces.{seen, more, rest}
+use Rattle.index.specs.Pieces.{more, rest}
 use Rattle.index.proofs.SetText.{rest-next}
-use Rattle.index.specs.Reading.{Read, andThen, readMark, readRecord, readMore, readRecords, parse}
-use Rattle.index.specs.Reading.Read.{got, wrong}
+use Rattle.index.specs.Reading.{Parsed, andThen, readMark, readRecord, readMore, readRecords, parse}
+use Rattle.index.specs.Reading.Parsed.{got, wrong}
 use Rattle.index.proofs.TakenApart.{not-got}
 use Rattle.index.proofs.Decimal.{first}
 use Rattle.index.proofs.ReadSets.{record-complete, record-sound, mark-sound, long-entry, parse-some, parse-sound, head-entry}
 use Rattle.index.proofs.TextOnce.{parse-wrong}
 use Rattle.index.proofs.ReadSteps.{and-false}
+use Rattle.index.specs.Block.{greatestName, nameCount}
 
 -- ---- after a record
-more-wrong : (e : Entry) (r : List ℕ) (rest : List ℕ → Read (List Entry)) {s : List ℕ} → 0 < length r → readMark r ≡ wrong s
+more-wrong : (e : Entry) (r : List ℕ) (rest : List ℕ → Parsed (List Entry)) {s : List ℕ} → 0 < length r → readMark r ≡ wrong s
     → readMore e r rest ≡ wrong s
 unfolding readMore readMark
 more-wrong e [] rest h m = absurd (omega arith)
 more-wrong e (b ∷ r) rest {s} h m = go (eqb b 59) refl
   where
-    go : (t : Bool) → eqb b 59 ≡ t → cond (ltb (e .id) 1023 && eqb b 59) (andThen (rest r) (λ es s. got (e ∷ es) s)) (wrong (b ∷ r)) ≡ wrong s
+    go : (t : Bool) → eqb b 59 ≡ t → cond (ltb (e .id) greatestName && eqb b 59) (andThen (rest r) (λ es s. got (e ∷ es) s)) (wrong (b ∷ r)) ≡ wrong s
     go true q = absurd (not-got {a = b} {r = r} (sym m ∙ simp q))
     go false q =
-        let n : _≡_ {A = Read ℕ} (wrong (b ∷ r)) (wrong s) = simp q at m in
+        let n : _≡_ {A = Parsed ℕ} (wrong (b ∷ r)) (wrong s) = simp q at m in
         let z : b ∷ r ≡ s = cc in
-        simp (q, and-false (ltb (e .id) 1023)) (ap wrong z)
+        simp (q, and-false (ltb (e .id) greatestName)) (ap wrong z)
 
-more-full : (e : Entry) (r : List ℕ) (rest : List ℕ → Read (List Entry)) → 0 < length r → 1023 ≤ e .id
+more-full : (e : Entry) (r : List ℕ) (rest : List ℕ → Parsed (List Entry)) → 0 < length r → greatestName ≤ e .id
     → readMore e r rest ≡ wrong r
 unfolding readMore
 more-full e [] rest h m = absurd (omega arith)
-more-full e (b ∷ r) rest h m = simp (le-ltb (e .id) 1023 m)
+more-full e (b ∷ r) rest h m = simp (le-ltb (e .id) greatestName m)
 
-more-next : (e : Entry) (r : List ℕ) (rest : List ℕ → Read (List Entry)) {m : ℕ} {s : List ℕ} → e .id < 1023 → readMark r ≡ got m s
+more-next : (e : Entry) (r : List ℕ) (rest : List ℕ → Parsed (List Entry)) {m : ℕ} {s : List ℕ} → e .id < greatestName → readMark r ≡ got m s
     → readMore e r rest ≡ andThen (rest s) (λ es u. got (e ∷ es) u)
 unfolding readMore
-more-next e r rest {m} {s} l h = rw (mark-sound r h) (simp (lt-ltb (e .id) 1023 l))
+more-next e r rest {m} {s} l h = rw (mark-sound r h) (simp (lt-ltb (e .id) greatestName l))
 
 records-step : (kind : Kind) (least : ℕ) (t : List ℕ) (g f : ℕ) → g ≡ suc f → (e : Entry) (r : List ℕ) → readRecord kind least t ≡ got e r
     → readRecords g kind least t ≡ readMore e r (λ s. readRecords f kind (e .id + 1) s)
@@ -53,14 +51,14 @@ unfolding readRecords
 records-step kind least t g f q e r h = ap (λ (x : ℕ). readRecords x kind least t) q ∙ simp h
 
 -- ---- what is read, after the records that were read before
-abbrev joined : List Entry → Read (List Entry) → Read (List Entry)
+abbrev joined : List Entry → Parsed (List Entry) → Parsed (List Entry)
 joined es x = andThen x (λ fs r. got (es ++ fs) r)
 
-joined-none : (x : Read (List Entry)) → x ≡ joined [] x
+joined-none : (x : Parsed (List Entry)) → x ≡ joined [] x
 joined-none (got es r) = refl
 joined-none (wrong s) = refl
 
-joined-more : (es : List Entry) (e : Entry) (x : Read (List Entry))
+joined-more : (es : List Entry) (e : Entry) (x : Parsed (List Entry))
     → joined es (andThen x (λ fs r. got (e ∷ fs) r)) ≡ joined (es ++ (e ∷ [])) x
 joined-more es e (got fs r) = ap (λ (l : List Entry). got l r) (sym (append-assoc es (e ∷ []) fs))
 joined-more es e (wrong s) = refl
@@ -74,8 +72,8 @@ pub record Turn (text : List ℕ) (kind : Kind) (at least n : ℕ) : Type 0 wher
   pub fuel : ℕ
   pub es : List Entry
   pub size : length es ≡ n
-  pub small : least < 1024
-  pub enough : 1024 ≤ fuel + least
+  pub small : least < nameCount
+  pub enough : nameCount ≤ fuel + least
   pub says : parse kind text ≡ joined es (readRecords fuel kind least (drop at text))
   pub room : n + (length text - at) ≤ length text
 
@@ -88,12 +86,12 @@ module _ (text : List ℕ) (kind : Kind) where
   pub turn-first : 0 < length text → Turn text kind 0 0 0
   turn-first h =
       record {
-        fuel = 1024;
+        fuel = nameCount;
         es = [];
         size = refl;
         small = omega arith;
         enough = omega arith;
-        says = parse-some kind text h ∙ joined-none (readRecords 1024 kind 0 text);
+        says = parse-some kind text h ∙ joined-none (readRecords nameCount kind 0 text);
         room = omega arith;
       }
 
@@ -136,15 +134,15 @@ module _ (text : List ℕ) (kind : Kind) where
       turn-no-mark s k m =
           parse-wrong kind text (step ∙ ap (joined (t .es)) (more-wrong e (drop at′ text) _ (omega (arith, length-drop at′ text)) m))
 
-      pub turn-full : at′ < length text → e .id ≡ 1023 → Refused kind text
+      pub turn-full : at′ < length text → e .id ≡ greatestName → Refused kind text
       turn-full k m =
           parse-wrong kind text (step ∙ ap (joined (t .es)) (more-full e (drop at′ text) _ (omega (arith, length-drop at′ text)) (omega arith)))
 
-      pub turn-next : (m at″ : ℕ) → (e .id ≡ 1023 → ⊥) → readMark (drop at′ text) ≡ got m (drop at″ text)
+      pub turn-next : (m at″ : ℕ) → (e .id ≡ greatestName → ⊥) → readMark (drop at′ text) ≡ got m (drop at″ text)
           → Turn text kind at″ (e .id + 1) (n + 1) × (length text - at″ < length text - at)
       turn-next m at″ o k =
           let s = record-sound kind least (drop at text) h in
-          let n : e .id < 1023 = omega (arith, s .entry .named) in
+          let n : e .id < greatestName = omega (arith, s .entry .named) in
           let q : suc (length (drop at″ text)) ≡ length (drop at′ text) = ap length (sym (mark-sound (drop at′ text) k)) in
           let l : length text - at″ < length text - at = omega (arith, shorter, length-drop at′ text, length-drop at″ text) in (
             record {
@@ -158,17 +156,6 @@ module _ (text : List ℕ) (kind : Kind) where
             },
             l,
           )
-
--- ---- the place of a piece
-pub found-right : (text s : List ℕ) (p : Piece) (n : ℕ) (c : Cursor) → p ≡ Found n c → seen text p ≡ wrong s → ⊥
-found-right text s p n c e h = not-got (sym h ∙ ap (seen text) e)
-
-pub wrong-there : (text s : List ℕ) (p : Piece) (c d : Cursor) → p ≡ Wrong c → d ≡ c → seen text p ≡ wrong s
-    → length s ≡ length text - d .at
-wrong-there text s p c d e q h =
-    let z : _≡_ {A = Read ℕ} (wrong s) (wrong (drop (c .at) text)) = sym h ∙ ap (seen text) e in
-    let y : s ≡ drop (c .at) text = cc in
-    ap length y ∙ length-drop (c .at) text ∙ ap (λ (x : Cursor). length text - x .at) (sym q)
 
 -- ---- a text that is known to be of a set
 first-more : (es : List Entry) → first (more es) ≡ 59

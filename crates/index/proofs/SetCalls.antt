@@ -33,12 +33,11 @@ set-held b kind x r h a = all-hold (setNeeds b kind x) r (omega arith) h a
 pub record Held (b : List ℕ) (kind x : ℕ) : Type 0 where
   pub sized : Sized b
   pub good : Good b
-  pub kind-right : IsKind kind
   pub named : IsName x
 
 pub held : (b : List ℕ) (kind x : ℕ) → All (setNeeds b kind x) → Held b kind x
 unfolding setNeeds blockNeeds
-held b kind x h = record { sized = h .0; good = h .1 .0; kind-right = h .1 .1 .0; named = h .1 .1 .1 .0 }
+held b kind x h = record { sized = h .0; good = h .1 .0; named = h .1 .1 .1 .0 }
 
 -- ---- write
 

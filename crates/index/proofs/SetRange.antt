@@ -7,7 +7,7 @@ use native.Mathlib.Omega.{arith}
 use borrow.Author.Tests.{eq-eqb, ne-eqb}
 use lib.ListN.{length}
 use Rattle.index.specs.declared.Kind.{Kind}
-use Rattle.index.specs.Block.{key, id, from, size, Of, Good}
+use Rattle.index.specs.Block.{nameCount, key, id, from, size, Of, Good}
 use Rattle.index.specs.Text.{Entry, entryAt, setFrom, setOf}
 use Rattle.index.specs.Edits.{Lowest}
 use Rattle.index.specs.Written.{entriesFrom}
@@ -57,8 +57,8 @@ module _ (b : List ℕ) (x : ℕ) where
       ∙ set-from s (i + 1) n lo d (omega arith) (omega arith) (λ m a c. f m (omega arith) c) h (λ m a c. k m a (omega arith))
 
 -- The set of the key x lies between the first record with that key or a higher one and the first with a higher one.
-module _ {b : List ℕ} (g : Good b) (kind : Kind) (x lo hi : ℕ) (p : Lowest b kind (1024 * x) lo) (q : Lowest b kind (1024 * (x + 1)) hi) where
-  named : (i : ℕ) → Of b kind i → id b i < 1024
+module _ {b : List ℕ} (g : Good b) (kind : Kind) (x lo hi : ℕ) (p : Lowest b kind (nameCount * x) lo) (q : Lowest b kind (nameCount * (x + 1)) hi) where
+  named : (i : ℕ) → Of b kind i → id b i < nameCount
   named i o = g .ids i (of-records kind b i o)
 
   pub bounds : lo ≤ hi

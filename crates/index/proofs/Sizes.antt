@@ -6,7 +6,7 @@ use native.Mathlib.Omega.{arith}
 use lib.ListN.{length}
 use Rattle.index.specs.declared.Kind.{Kind}
 use Rattle.index.specs.declared.Kind.the-variants.{Membership, Permission, Filter}
-use Rattle.index.specs.Block.{headerLength, number, size, records, place}
+use Rattle.index.specs.Block.{headerLength, number, size, records, place, recordLength}
 use Rattle.index.specs.Bytes.{Put, Four, Inside, Shifted, Spliced}
 use Rattle.index.specs.Edits.{three, Headed, Resized}
 use Rattle.index.proofs.Bytes.{inside-none, inside-then, inside-wide, number-below}
@@ -29,14 +29,14 @@ four {i} {b₄ = b₄} w₀ w₁ w₂ w₃ =
     record { rest = v₀ .0; first = v₀ .1; second = v₁ .1; third = v₂ .1; fourth = v₃ .1 }
 
 pub headed : {m p f : ℕ} {b₀ b₁ b₂ : List ℕ} → Four 0 m p f 0 b₀ b₁
-    → Four 8 16 (16 + 20 * m) (16 + 20 * m + 20 * p) (16 + 20 * m + 20 * p + 20 * f) b₁ b₂ → Headed m p f b₀ b₂
+    → Four 8 headerLength (place m) (place m + recordLength * p) (place m + recordLength * p + recordLength * f) b₁ b₂ → Headed m p f b₀ b₂
 headed {m} {p} {f} {b₂ = b₂} s o =
     let keep : (t : ℕ) → t + 1 < 8 → number b₂ t ≡ number _ t = λ t l. number-below (o .rest) t (omega arith) in
     let m-size = keep 0 (omega arith) ∙ s .first in
     let p-size = keep 2 (omega arith) ∙ s .second in
     let f-size = keep 4 (omega arith) ∙ s .third in
     record {
-      rest = inside-then (inside-wide 0 16 (s .rest) (omega arith) (omega arith)) (o .rest) (omega arith) (omega arith);
+      rest = inside-then (inside-wide 0 headerLength (s .rest) (omega arith) (omega arith)) (o .rest) (omega arith) (omega arith);
       sizes = each-kind (λ K. size b₂ K ≡ three m p f K) m-size p-size f-size;
       header =
           λ l.

@@ -8,7 +8,7 @@ use lib.ListN.{length, getD}
 use Rattle.index.specs.declared.Kind.{Kind}
 use Rattle.index.specs.declared.Kind.the-variants.{Membership, Permission, Filter}
 use Rattle.index.specs.Letters.{letterCount, lettersOf}
-use Rattle.index.specs.Block.{headerLength, number, size, from, records, Of, place, key, id, countAt, Good, count}
+use Rattle.index.specs.Block.{headerLength, number, size, from, records, Of, place, key, id, countAt, Good, count, recordLength}
 use Rattle.index.specs.Message.{kindNumber}
 use Rattle.index.specs.Places.{spot, At}
 use Rattle.index.specs.Checks.{Header, Record}
@@ -124,9 +124,9 @@ module _ {kind : Kind} {j n m : ℕ} {b b′ : List ℕ} (s : Sides kind j n m b
   high-same d i q =
       same-numbers b (j + n + d) b′ i
       (λ o l.
-      let e : place (j + m) + (20 * d + o) ≡ place i + o = omega arith in
-      let f : place (j + n) + (20 * d + o) ≡ place (j + n + d) + o = omega arith in
-      rw (← e, ← f) (high-number (20 * d + o)))
+      let e : place (j + m) + (recordLength * d + o) ≡ place i + o = omega arith in
+      let f : place (j + n) + (recordLength * d + o) ≡ place (j + n + d) + o = omega arith in
+      rw (← e, ← f) (high-number (recordLength * d + o)))
 
   view : (K : Kind) (i : ℕ) → Of b′ K i → View kind j n m b b′ K i
   view K i o = go (lies kind K j n m b b′ s) (lt-or-le i j) (lt-or-le i (j + m))

@@ -8,13 +8,13 @@ use native.Mathlib.Omega.{arith}
 use lib.ListN.{length, getD}
 use Rattle.index.specs.declared.Kind.{Kind}
 use Rattle.index.specs.Letters.{letterCount, In}
-use Rattle.index.specs.Block.{recordLength, place, key, id, Of, countAt, records, room, Good}
+use Rattle.index.specs.Block.{greatestCount, recordLength, place, key, id, Of, countAt, records, room, Good}
 use Rattle.index.specs.Bytes.{Spliced}
 use Rattle.index.specs.Checks.{Counted}
-use Rattle.index.specs.Message.{Half, Masked, Changed, standing, changeNeeds}
+use Rattle.index.specs.Message.{Half, Masked, Changed, ownCount, changeNeeds}
 use Rattle.index.specs.Message.Change.{take, add}
 use Rattle.index.specs.Places.{At, Gap}
-use Rattle.index.specs.Edits.{bit, Allows, Left, Opens, Recounted, Written, Ready, Freed, Step}
+use Rattle.index.specs.Edits.{bit, Allows, Left, Opens, Recounted, NewRecord, Ready, Freed, Step}
 use Rattle.index.proofs.Bytes.{count-small}
 use Rattle.index.proofs.Changes.{gap-none}
 use Rattle.index.proofs.Edited.{recounted-is, removed-is, removed-records, inserted-is}
@@ -25,13 +25,13 @@ use Rattle.index.proofs.Records.{of-records, gap-in, count-at, count-no
 -- 6 and 7 by the counts of the record.
 module _ (h : Half) {b : List ℕ} {j : ℕ} (g : Good b) (a : At b (h .kind) (h .key) (h .id) j) where
   abbrev TakeNeed : Type 0
-  TakeNeed = (k : ℕ) → k < letterCount → In k (h .mask) → 0 < standing b h k
+  TakeNeed = (k : ℕ) → k < letterCount → In k (h .mask) → 0 < ownCount b h k
 
   abbrev AddNeed : Type 0
-  AddNeed = (k : ℕ) → k < letterCount → In k (h .mask) → standing b h k < 65535
+  AddNeed = (k : ℕ) → k < letterCount → In k (h .mask) → ownCount b h k < greatestCount
 
-  stands : (k : ℕ) → standing b h k ≡ countAt b j k
-  unfolding standing
+  stands : (k : ℕ) → ownCount b h k ≡ countAt b j k
+  unfolding ownCount
   stands k = count-at g (h .kind) (h .key) (h .id) j k a
 
   take-allows : TakeNeed → Allows b j (h .mask) 0
@@ -81,8 +81,8 @@ module _ (h : Half) {b : List ℕ} {j : ℕ} (g : Good b) (a : At b (h .kind) (h
 
 -- The record is missing.
 module _ (h : Half) {b : List ℕ} {j : ℕ} (gap : Gap b (h .kind) (h .key) (h .id) j) where
-  stands-not : (k : ℕ) → standing b h k ≡ 0
-  unfolding standing
+  stands-not : (k : ℕ) → ownCount b h k ≡ 0
+  unfolding ownCount
   stands-not k = count-none b (h .kind) (h .key) (h .id) k (gap-none gap)
 
   pub take-missing : Masked h → Step (take h) b 6 b
@@ -121,7 +121,7 @@ module _
     (w : Allows b j (h .mask) 0)
     (bytes : (t : ℕ) → getD b′ t 0 < 256) where
   pub taken-lowered : Left b j (h .mask) → Recounted j (h .mask) 0 b b′ → Step (take h) b 0 b′
-  unfolding standing
+  unfolding ownCount
   taken-lowered left d =
       let some : Counted b′ j = (left .0, left .1, omega (arith, left .2, d .counts (left .0) (left .1))) in
       let e = recounted-is (take h) (r .good) a (r .masked) d bytes some in
@@ -150,7 +150,7 @@ module _ (h : Half) {b b′ : List ℕ} {j : ℕ} (r : Ready h b) (bytes : (t : 
       (c .0, c .1, omega (arith, c .2, d .counts (c .0) (c .1), bit-zero (c .0))))
 
   pub added-inserted : {b₁ : List ℕ} → Gap b (h .kind) (h .key) (h .id) j → place (records b) + recordLength ≤ length b
-      → Spliced (h .kind) j 0 1 b b₁ → Written j (h .key) (h .id) (h .mask) b₁ b′ → Step (add h) b 0 b′
+      → Spliced (h .kind) j 0 1 b b₁ → NewRecord j (h .key) (h .id) (h .mask) b₁ b′ → Step (add h) b 0 b′
   added-inserted gap l s w = add-inserted h gap l (inserted-is h (r .good) bytes r gap s w)
 
 -- ---- what the code asks of a record, and of a splice

@@ -5,18 +5,18 @@ use mathlib.Core.Bool.{Bool, true, false, cond, _&&_}
 use mathlib.Core.List.{List}
 use mathlib.Core.Logic.{_⊎_, inl, inr}
 use native.Mathlib.Omega.{arith}
-use Rattle.index.specs.Reading.{Read, andThen}
-use Rattle.index.specs.Reading.Read.{got, wrong}
+use Rattle.index.specs.Reading.{Parsed, andThen}
+use Rattle.index.specs.Reading.Parsed.{got, wrong}
 
-pub not-got : {A : Type 0} {a : A} {r s : List ℕ} → _≡_ {A = Read A} (wrong s) (got a r) → ⊥
+pub not-got : {A : Type 0} {a : A} {r s : List ℕ} → _≡_ {A = Parsed A} (wrong s) (got a r) → ⊥
 not-got e = let z : _≡_ {A = ℕ} 0 1 = cc in omega arith
 
-pub and-inv : {A B : Type 0} (x : Read A) (f : A → List ℕ → Read B) {b : B} {r : List ℕ} → andThen x f ≡ got b r
+pub and-inv : {A B : Type 0} (x : Parsed A) (f : A → List ℕ → Parsed B) {b : B} {r : List ℕ} → andThen x f ≡ got b r
     → (a : A) × (s : List ℕ) × (x ≡ got a s) × (f a s ≡ got b r)
 and-inv (got a s) f e = (a, s, refl, e)
 and-inv (wrong s) f e = absurd (not-got e)
 
-pub guard-inv : {A : Type 0} (t : Bool) (x : Read A) (w : List ℕ) {b : A} {r : List ℕ} → cond t x (wrong w) ≡ got b r
+pub guard-inv : {A : Type 0} (t : Bool) (x : Parsed A) (w : List ℕ) {b : A} {r : List ℕ} → cond t x (wrong w) ≡ got b r
     → (t ≡ true) × (x ≡ got b r)
 guard-inv true x w e = (refl, e)
 guard-inv false x w e = absurd (not-got e)
@@ -30,5 +30,5 @@ and-true true b e = (refl, e)
 and-true false b e = let z : _≡_ {A = ℕ} 0 1 = cc in absurd (omega arith)
 
 -- what is handed on, once it is known what was read
-pub then-of : {A B : Type 0} {x y z : Read A} (f : A → List ℕ → Read B) → y ≡ x → y ≡ z → andThen x f ≡ andThen z f
+pub then-of : {A B : Type 0} {x y z : Parsed A} (f : A → List ℕ → Parsed B) → y ≡ x → y ≡ z → andThen x f ≡ andThen z f
 then-of f e d = ap (λ x. andThen x f) (sym e ∙ d)

@@ -8,7 +8,7 @@ use Rattle.index.specs.Text.{Entry, textOf, IsSet, Writes}
 use Rattle.index.specs.Reading.{parse}
 use Rattle.index.specs.declared.scanning.Scan.the-variants.{Records}
 use Rattle.index.specs.Pieces.{Scanned}
-use Rattle.index.specs.Reading.Read.{got, wrong}
+use Rattle.index.specs.Reading.Parsed.{got, wrong}
 use Rattle.index.proofs.TakenApart.{not-got}
 use Rattle.index.proofs.ReadSets.{parse-complete}
 

@@ -11,8 +11,18 @@ use Rattle.index.specs.declared.Kind.the-variants.{Membership, Permissio
 use Rattle.index.specs.Letters.{letterCount, lettersOf}
 
 -- "Names are numbers 0 to 1023."
+abbrev pub nameCount : ℕ
+nameCount = 1024
+
+abbrev pub greatestName : ℕ
+greatestName = 1023
+
 abbrev pub IsName : ℕ → Type 0
-IsName n = n < 1024
+IsName n = n < nameCount
+
+-- "eight 16-bit counts": a count is at most 65,535.
+abbrev pub greatestCount : ℕ
+greatestCount = 65535
 
 -- "All numbers are little-endian": the 16-bit number at byte i.
 unfoldable pub number : List ℕ → ℕ → ℕ

@@ -30,7 +30,7 @@ unfoldable pub Makes : List ℕ → (ℕ × List ℕ) → Type 0
 Makes b o = First (λ n. (n, b)) (makeNeeds b) (Made b) o
 
 -- message: the number, and the block then. 3: "message not 12 bytes, or kind, flags or an absent half wrong"; 4: "a name
--- above 1023 in a present half"; 5: "a present half's mask 0, or above 15 for M or F"; then 6, 7 and 8 of its steps.
+-- above 1023, given by the caller or in a present half", here the latter; 5: "a present half's mask 0, or above 15 for M or F"; then 6, 7 and 8 of its steps.
 unfoldable pub messageNeeds : List ℕ → List ℕ → List (ℕ × Type 0)
 messageNeeds b m =
     blockNeeds b
@@ -78,8 +78,8 @@ writeNeeds b kind x out = setNeeds b kind x ++ ((10, length (textOf (setOf b (ki
 unfoldable pub WritesSet : List ℕ → ℕ → ℕ → List ℕ → (ℕ × ℕ × List ℕ) → Type 0
 WritesSet b kind x out o = First (λ n. (n, 0, out)) (writeNeeds b kind x out) (Written b kind x out) o
 
--- read: the number, how many records the set has, and the block then. 9: "not the text of any set of that kind"; 8: "after
--- removing the old set, the records do not fit". "read tests 9 before 8."
+-- read: the number, how many records the set has, and the block then. 9: "not the text of any set of that kind"; 8: after
+-- "removing the old set", "the records do not fit". "read tests 9 before 8."
 abbrev pub Read : List ℕ → ℕ → ℕ → List ℕ → (ℕ × ℕ × List ℕ) → Type 0
 Read b kind x text o =
     (es : List Entry) × Writes (kindOf kind) es text × (o .0 ≡ 0) × (o .1 ≡ length es)

@@ -10,11 +10,11 @@ use Rattle.index.specs.declared.places.Found.{Found}
 use Rattle.index.specs.declared.places.Found.the-variants as found
 use Rattle.index.specs.declared.Kind.the-variants.{Membership, Permission, Filter}
 use Rattle.index.specs.Letters.{letterCount}
-use Rattle.index.specs.Block.{IsName, headerLength, greatestLength, recordLength, place, countAt, from, size, records, key, id, Of, Good}
+use Rattle.index.specs.Block.{greatestCount, IsName, headerLength, greatestLength, recordLength, place, countAt, from, size, records, key, id, Of, Good}
 use Rattle.index.specs.Bytes.{Inside}
 use Rattle.index.specs.Checks.{Header}
 use Rattle.index.specs.Numbers.{First}
-use Rattle.index.specs.Message.{IsKind, flags, Half, Named, halfAt, WellFormed, Masked, Change, Changed, standing, changeNeeds}
+use Rattle.index.specs.Message.{IsKind, flags, Half, Named, halfAt, WellFormed, Masked, Change, Changed, ownCount, changeNeeds}
 use Rattle.index.specs.Message.Change.{take, add}
 use Rattle.index.specs.Listed.{kindIn, halfIn, changeIn}
 use Rattle.index.specs.Places.{spot, At, Gap}
@@ -38,7 +38,7 @@ Finds b kind x y (found.Missing i) = Gap b kind x y i
 -- ---- bytes and the header
 
 -- b′ is b with the byte f u at each u from lo to hi - 1.
-pub record Filled (lo hi : ℕ) (f : ℕ → ℕ) (b b′ : List ℕ) : Type 0 where
+pub record Overwritten (lo hi : ℕ) (f : ℕ → ℕ) (b b′ : List ℕ) : Type 0 where
   pub rest : Inside lo hi b b′
   pub is : (u : ℕ) → lo ≤ u → u < hi → getD b′ u 0 ≡ f u
 
@@ -80,7 +80,7 @@ bit mask k = mask / 2 ^ k % 2
 abbrev pub Allows : List ℕ → ℕ → ℕ → ℕ → Type 0
 Allows b i less more =
     (k : ℕ) → k < letterCount
-    → (bit less k ≤ countAt b i k + bit more k) × (countAt b i k + bit more k ≤ 65535 + bit less k)
+    → (bit less k ≤ countAt b i k + bit more k) × (countAt b i k + bit more k ≤ greatestCount + bit less k)
 
 -- A count of record i is above zero without one for each letter of the mask.
 abbrev pub Left : List ℕ → ℕ → ℕ → Type 0
@@ -92,7 +92,7 @@ pub record Recounted (i less more : ℕ) (b b′ : List ℕ) : Type 0 where
   pub counts : (k : ℕ) → k < letterCount → countAt b′ i k + bit less k ≡ countAt b i k + bit more k
 
 -- Record i of b′ has the key x, the id y and each letter of the mask once; the rest is as in b.
-pub record Written (i x y mask : ℕ) (b b′ : List ℕ) : Type 0 where
+pub record NewRecord (i x y mask : ℕ) (b b′ : List ℕ) : Type 0 where
   pub rest : Inside (place i) (place (i + 1)) b b′
   pub new-key : key b′ i ≡ x
   pub new-id : id b′ i ≡ y
@@ -113,7 +113,7 @@ pub record Ready (h : Half) (b : List ℕ) : Type 0 where
 
 -- Where the record of a half taken away is gone, there is room again.
 abbrev pub Freed : Change → List ℕ → List ℕ → Type 0
-Freed (take h) b b′ = ((k : ℕ) → k < letterCount → standing b′ h k ≡ 0) → records b′ < records b
+Freed (take h) b b′ = ((k : ℕ) → k < letterCount → ownCount b′ h k ≡ 0) → records b′ < records b
 Freed (add h) b b′ = Unit {0}
 
 -- One change by itself gives the number r and the block b′.
@@ -128,8 +128,8 @@ changeOf true h = add h
 changeOf false h = take h
 
 -- The change in the number n passes the test of this number.
-unfoldable pub Passes : ℕ → ℕ → Type 0
-Passes test n = cond (eqb test 3) (IsKind (kindIn n)) (cond (eqb test 4) (Named (halfIn n)) (Masked (halfIn n)))
+unfoldable pub PassesTest : ℕ → ℕ → Type 0
+PassesTest test n = cond (eqb test 3) (IsKind (kindIn n)) (cond (eqb test 4) (Named (halfIn n)) (Masked (halfIn n)))
 
 -- The tests have passed, of the block and of each change in the list.
 abbrev pub Prepared : List ℕ → List ℕ → Type 0

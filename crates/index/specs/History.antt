@@ -31,7 +31,7 @@ pub data Accepted : List ℕ → List Sent → List ℕ → Type 0 where
   nothing : {b : List ℕ} → Accepted b [] b
   next : {b b₁ b′ : List ℕ} {m : Sent} {ms : List Sent} → Outcome b m (0, b₁) → Accepted b₁ ms b′ → Accepted b (m ∷ ms) b′
 
--- "a list of messages only, each labelled with the statement it speaks for"
+-- "a list of messages only, with no read between, each labelled with the statement it speaks for"
 pub record Labelled : Type 0 where
   pub label : ℕ
   pub sent : Sent

@@ -10,6 +10,14 @@ use Rattle.index.specs.declared.Kind.the-variants.{Membership, Permissio
 abbrev pub letterCount : ℕ
 letterCount = 8
 
+-- How many rights: the letters below this one are the capital letters.
+abbrev pub rightCount : ℕ
+rightCount = 4
+
+-- The mask of all four.
+abbrev pub allRights : ℕ
+allRights = 15
+
 -- "letter": the bytes of M R U P m r u p.
 unfoldable pub letters : List ℕ
 letters = 77 ∷ 82 ∷ 85 ∷ 80 ∷ 109 ∷ 114 ∷ 117 ∷ 112 ∷ []
@@ -20,6 +28,6 @@ In k mask = mask / 2 ^ k % 2 ≡ 1
 
 -- "M and F records have zero in the four small-letter counts": a record of the kind may have the letters below this one.
 unfoldable pub lettersOf : Kind → ℕ
-lettersOf Membership = 4
+lettersOf Membership = rightCount
 lettersOf Permission = letterCount
-lettersOf Filter = 4
+lettersOf Filter = rightCount

@@ -2,6 +2,7 @@
 pub mod Letters
 pub mod Numbers
 pub mod Block
+pub mod Doors
 pub mod Message
 pub mod Listed
 pub mod Wide
@@ -13,7 +14,6 @@ pub mod Places
 pub mod Checks
 pub mod Bytes
 pub mod Edits
-pub mod Doors
 pub mod Reading
 pub mod Pieces
 pub mod Written

@@ -10,7 +10,7 @@ use Rattle.index.specs.declared.Kind.{Kind}
 use Rattle.index.specs.declared.Kind.the-variants.{Membership, Permission, Filter}
 use Rattle.index.specs.Letters.{letterCount, lettersOf, In}
 use Rattle.index.specs.Numbers.{First}
-use Rattle.index.specs.Block.{IsName, number, Good, count, records, room}
+use Rattle.index.specs.Block.{greatestCount, IsName, number, Good, count, records, room}
 
 -- "kind (1 M, 2 P, 3 F)"
 unfoldable pub IsKind : ℕ → Type 0
@@ -31,7 +31,8 @@ pub record Half : Type 0 where
   pub id : ℕ
   pub mask : ℕ
 
--- "12 bytes: kind, flags, then the previous and the new half, 5 bytes each: key (2), id (2), mask (1)"
+-- "12 bytes: kind (1 M, 2 P, 3 F), flags (1 previous present, 2 new present, 3 both), then the previous and the new half, 5
+-- bytes each: key (2), id (2), mask (1)."
 unfoldable pub flags : List ℕ → ℕ
 flags m = getD m 1 0
 
@@ -69,7 +70,7 @@ pub data Change : Type 0 where
   take : Half → Change
   add : Half → Change
 
--- "first take away the previous half, then add the new half"
+-- "first take away the previous half", "then add the new half"
 abbrev pub steps : List Half → List Half → List Change
 steps hs gs = map take hs ++ map add gs
 
@@ -100,16 +101,16 @@ pub record Changed (c : Change) (b b′ : List ℕ) : Type 0 where
       → count b′ kind x y k + taken c kind x y k ≡ count b kind x y k + added c kind x y k
 
 -- Letter k of the half's record in the block.
-unfoldable pub standing : List ℕ → Half → ℕ → ℕ
-standing b h k = count b (h .kind) (h .key) (h .id) k
+unfoldable pub ownCount : List ℕ → Half → ℕ → ℕ
+ownCount b h k = count b (h .kind) (h .key) (h .id) k
 
 -- 6: "a letter of the previous half has count 0 or no record"; 7: "a letter to add stands at 65,535"; 8: "the records do not
 -- fit", where the record is not there already.
 unfoldable pub changeNeeds : Change → List ℕ → List (ℕ × Type 0)
-changeNeeds (take h) b = (6, (k : ℕ) → k < letterCount → In k (h .mask) → 0 < standing b h k) ∷ []
+changeNeeds (take h) b = (6, (k : ℕ) → k < letterCount → In k (h .mask) → 0 < ownCount b h k) ∷ []
 changeNeeds (add h) b =
-    (7, (k : ℕ) → k < letterCount → In k (h .mask) → standing b h k < 65535)
-    ∷ (8, ((k : ℕ) × (k < letterCount) × (0 < standing b h k)) ⊎ (records b < room b)) ∷ []
+    (7, (k : ℕ) → k < letterCount → In k (h .mask) → ownCount b h k < greatestCount)
+    ∷ (8, ((k : ℕ) × (k < letterCount) × (0 < ownCount b h k)) ⊎ (records b < room b)) ∷ []
 
 -- The changes, one after the other, on the block b. A refusal gives back b₀, the block as it came: "no lent byte changes".
 unfoldable pub Carried : List ℕ → List Change → List ℕ → (ℕ × List ℕ) → Type 0

@@ -1,6 +1,6 @@
 -- For proofs only: what the piece readers of the code answer, as readings of the bytes that are left, and the text of a set
 -- from a record on.
-use Prim.Native.Nat.{ℕ}
+use Prim.Native.Nat.{ℕ, _-_}
 use mathlib.Core.Path.{_≡_}
 use mathlib.Core.Bool.{Bool, true, false}
 use mathlib.Core.List.{List, [], _∷_, _++_}
@@ -10,23 +10,43 @@ use Rattle.index.specs.declared.scanning.Scan.{Scan}
 use Rattle.index.specs.declared.scanning.Scan.the-variants.{Records, Wrong as NoSet}
 use Rattle.index.specs.Text.{Entry, Writes, entryText, textOf}
 use Rattle.index.specs.declared.reading.Piece.{Piece}
-use Rattle.index.specs.declared.reading.Piece.the-variants.{Found, Wrong}
-use Rattle.index.specs.Reading.{Read}
-use Rattle.index.specs.Reading.Read.{got, wrong}
+use Rattle.index.specs.declared.reading.Piece.the-variants.{Number, Mark, Letters, Wrong}
+use Rattle.index.specs.Reading.{Parsed}
+use Rattle.index.specs.Reading.Parsed.{got, wrong}
 
-abbrev pub seen : List ℕ → Piece → Read ℕ
-seen text (Found n c) = got n (drop (c .at) text)
-seen text (Wrong c) = wrong (drop (c .at) text)
+-- What a reader's answer says: that x was read. A reader has a case for what it looks for, and answers no other.
+abbrev pub SeesNumber : List ℕ → Piece → Parsed ℕ → Type 0
+SeesNumber text (Number n c) x = x ≡ got n (drop (c .at) text)
+SeesNumber text (Mark c) x = ⊥
+SeesNumber text (Letters c) x = ⊥
+SeesNumber text (Wrong c) x = x ≡ wrong (drop (c .at) text)
 
--- The counts that a reader left in a lent array.
-abbrev pub seenCounts : List ℕ → Piece → List ℕ → Read (List ℕ)
-seenCounts text (Found n c) cs = got cs (drop (c .at) text)
-seenCounts text (Wrong c) cs = wrong (drop (c .at) text)
+abbrev pub SeesMark : List ℕ → Piece → Parsed ℕ → Type 0
+SeesMark text (Number n c) x = ⊥
+SeesMark text (Mark c) x = x ≡ got 59 (drop (c .at) text)
+SeesMark text (Letters c) x = ⊥
+SeesMark text (Wrong c) x = x ≡ wrong (drop (c .at) text)
 
--- A record, whose counts a reader left in a lent array.
-abbrev pub seenEntry : List ℕ → Piece → List ℕ → Read Entry
-seenEntry text (Found n c) cs = got (record { id = n; counts = cs }) (drop (c .at) text)
-seenEntry text (Wrong c) cs = wrong (drop (c .at) text)
+-- The letters of a record: their counts are in a lent array.
+abbrev pub SeesLetters : List ℕ → Piece → List ℕ → Parsed (List ℕ) → Type 0
+SeesLetters text (Number n c) cs x = ⊥
+SeesLetters text (Mark c) cs x = ⊥
+SeesLetters text (Letters c) cs x = x ≡ got cs (drop (c .at) text)
+SeesLetters text (Wrong c) cs x = x ≡ wrong (drop (c .at) text)
+
+-- A record: the number is its id, and its counts are in a lent array.
+abbrev pub SeesEntry : List ℕ → Piece → List ℕ → Parsed Entry → Type 0
+SeesEntry text (Number n c) cs x = x ≡ got (record { id = n; counts = cs }) (drop (c .at) text)
+SeesEntry text (Mark c) cs x = ⊥
+SeesEntry text (Letters c) cs x = ⊥
+SeesEntry text (Wrong c) cs x = x ≡ wrong (drop (c .at) text)
+
+-- The place of a wrong piece is the text's.
+abbrev pub Placed : List ℕ → Piece → Scan → Type 0
+Placed text (Number n c) r = Unit {0}
+Placed text (Mark c) r = Unit {0}
+Placed text (Letters c) r = Unit {0}
+Placed text (Wrong c) r = r ≡ NoSet (length text - length (drop (c .at) text))
 
 -- The text is what some set of the kind is written as, which has n records; or no set is written so.
 abbrev pub Scanned : Kind → List ℕ → Scan → Type 0

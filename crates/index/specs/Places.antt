@@ -3,11 +3,11 @@ use Prim.Native.Nat.{ℕ, _+_, _*_, _<_, _≤_}
 use mathlib.Core.Path.{_≡_}
 use mathlib.Core.List.{List}
 use Rattle.index.specs.declared.Kind.{Kind}
-use Rattle.index.specs.Block.{key, id, from, size, Of}
+use Rattle.index.specs.Block.{nameCount, key, id, from, size, Of}
 
 -- Key and id as one number: records in a part rise by it.
 abbrev pub spot : List ℕ → ℕ → ℕ
-spot b i = 1024 * key b i + id b i
+spot b i = nameCount * key b i + id b i
 
 -- Record i is the one of this kind, key and id.
 pub record At (b : List ℕ) (kind : Kind) (x y i : ℕ) : Type 0 where
@@ -19,5 +19,5 @@ pub record At (b : List ℕ) (kind : Kind) (x y i : ℕ) : Type 0 where
 pub record Gap (b : List ℕ) (kind : Kind) (x y i : ℕ) : Type 0 where
   pub low : from b kind ≤ i
   pub high : i ≤ from b kind + size b kind
-  pub before : (m : ℕ) → Of b kind m → m < i → spot b m < 1024 * x + y
-  pub after : (m : ℕ) → Of b kind m → i ≤ m → 1024 * x + y < spot b m
+  pub before : (m : ℕ) → Of b kind m → m < i → spot b m < nameCount * x + y
+  pub after : (m : ℕ) → Of b kind m → i ≤ m → nameCount * x + y < spot b m

@@ -8,14 +8,15 @@ use lib.Dec.{eqb, ltb, leb}
 use Rattle.index.specs.declared.Kind.{Kind}
 use Rattle.index.specs.Letters.{letters, lettersOf}
 use Rattle.index.specs.Text.{Entry}
+use Rattle.index.specs.Block.{greatestCount, greatestName, nameCount}
 
 -- What was read and the bytes that are left; or wrong, and the bytes from the place on.
-pub data Read (A : Type 0) : Type 0 where
-  got : A → List ℕ → Read A
-  wrong : List ℕ → Read A
+pub data Parsed (A : Type 0) : Type 0 where
+  got : A → List ℕ → Parsed A
+  wrong : List ℕ → Parsed A
 
 -- What was read is handed on, with the bytes that are left.
-abbrev pub andThen : {A B : Type 0} → Read A → (A → List ℕ → Read B) → Read B
+abbrev pub andThen : {A B : Type 0} → Parsed A → (A → List ℕ → Parsed B) → Parsed B
 andThen (got a t) f = f a t
 andThen (wrong t) f = wrong t
 
@@ -33,11 +34,11 @@ abbrev pub begins : ℕ → ℕ → ℕ → Bool
 begins least most n = reaches least most 4 n n
 
 -- The number n, which ends here: wrong below `least`.
-abbrev pub ends : ℕ → ℕ → List ℕ → Read ℕ
+abbrev pub ends : ℕ → ℕ → List ℕ → Parsed ℕ
 ends least n t = cond (leb least n) (got n t) (wrong t)
 
 -- The number from `least` to `most` that starts with n and goes on with the digits at the front.
-unfoldable pub readDigits : ℕ → ℕ → ℕ → List ℕ → Read ℕ
+unfoldable pub readDigits : ℕ → ℕ → ℕ → List ℕ → Parsed ℕ
 readDigits least most n [] = ends least n []
 readDigits least most n (b ∷ t) =
     cond (digit b)
@@ -45,30 +46,30 @@ readDigits least most n (b ∷ t) =
     (ends least n (b ∷ t))
 
 -- A number from `least` to `most`, without leading zeros.
-unfoldable pub readNumber : ℕ → ℕ → List ℕ → Read ℕ
+unfoldable pub readNumber : ℕ → ℕ → List ℕ → Parsed ℕ
 readNumber least most [] = wrong []
 readNumber least most (b ∷ t) =
     cond (eqb b 48) (cond (eqb least 0) (got 0 t) (wrong (b ∷ t)))
     (cond (digit b) (readDigits least most 0 (b ∷ t)) (wrong (b ∷ t)))
 
 -- A count, after its letter: 1 where no digit follows, else a number from 2 to 65535.
-unfoldable pub readCount : List ℕ → Read ℕ
+unfoldable pub readCount : List ℕ → Parsed ℕ
 readCount [] = got 1 []
-readCount (b ∷ t) = cond (digit b) (readNumber 2 65535 (b ∷ t)) (got 1 (b ∷ t))
+readCount (b ∷ t) = cond (digit b) (readNumber 2 greatestCount (b ∷ t)) (got 1 (b ∷ t))
 
 -- The count of the letter: 0 where the letter does not stand there, or may not.
-unfoldable pub readLetter : Bool → ℕ → List ℕ → Read ℕ
+unfoldable pub readLetter : Bool → ℕ → List ℕ → Parsed ℕ
 readLetter may l [] = got 0 []
 readLetter may l (b ∷ t) = cond (may && eqb b l) (readCount t) (got 0 (b ∷ t))
 
 -- The counts of the letters, in their order, of which the first n may stand there.
-unfoldable pub readCounts : ℕ → List ℕ → List ℕ → Read (List ℕ)
+unfoldable pub readCounts : ℕ → List ℕ → List ℕ → Parsed (List ℕ)
 readCounts n [] t = got [] t
 readCounts n (l ∷ ls) t =
     andThen (readLetter (ltb 0 n) l t) (λ c r. andThen (readCounts (n - 1) ls r) (λ cs s. got (c ∷ cs) s))
 
 -- `;`
-unfoldable pub readMark : List ℕ → Read ℕ
+unfoldable pub readMark : List ℕ → Parsed ℕ
 readMark [] = wrong []
 readMark (b ∷ t) = cond (eqb b 59) (got b t) (wrong (b ∷ t))
 
@@ -77,30 +78,30 @@ total [] = 0
 total (c ∷ cs) = c + total cs
 
 -- A record: id, `;`, letters, of which there is one at least.
-abbrev pub readLetters : Kind → ℕ → List ℕ → Read Entry
+abbrev pub readLetters : Kind → ℕ → List ℕ → Parsed Entry
 readLetters kind i t =
     andThen (readCounts (lettersOf kind) letters t)
     (λ cs r. cond (ltb 0 (total cs)) (got (record { id = i; counts = cs }) r) (wrong r))
 
-abbrev pub readAfterId : Kind → ℕ → List ℕ → Read Entry
+abbrev pub readAfterId : Kind → ℕ → List ℕ → Parsed Entry
 readAfterId kind i t = andThen (readMark t) (λ m r. readLetters kind i r)
 
-unfoldable pub readRecord : Kind → ℕ → List ℕ → Read Entry
-readRecord kind least t = andThen (readNumber least 1023 t) (λ i r. readAfterId kind i r)
+unfoldable pub readRecord : Kind → ℕ → List ℕ → Parsed Entry
+readRecord kind least t = andThen (readNumber least greatestName t) (λ i r. readAfterId kind i r)
 
 -- What stands after a record, e: nothing, or `;` and the records that `rest` reads, unless no id is left for one.
-unfoldable pub readMore : Entry → List ℕ → (List ℕ → Read (List Entry)) → Read (List Entry)
+unfoldable pub readMore : Entry → List ℕ → (List ℕ → Parsed (List Entry)) → Parsed (List Entry)
 readMore e [] rest = got (e ∷ []) []
 readMore e (b ∷ t) rest =
-    cond (ltb (e .id) 1023 && eqb b 59) (andThen (rest t) (λ es r. got (e ∷ es) r)) (wrong (b ∷ t))
+    cond (ltb (e .id) greatestName && eqb b 59) (andThen (rest t) (λ es r. got (e ∷ es) r)) (wrong (b ∷ t))
 
 -- One record or more, at most f, to the end of the text; each id is above the one before.
-unfoldable pub readRecords : ℕ → Kind → ℕ → List ℕ → Read (List Entry)
+unfoldable pub readRecords : ℕ → Kind → ℕ → List ℕ → Parsed (List Entry)
 readRecords ℕ.zero kind least t = wrong t
 readRecords (suc f) kind least t =
     andThen (readRecord kind least t) (λ e r. readMore e r (λ s. readRecords f kind (e .id + 1) s))
 
 -- The set that a text is of: at most 1024 records.
-unfoldable pub parse : Kind → List ℕ → Read (List Entry)
+unfoldable pub parse : Kind → List ℕ → Parsed (List Entry)
 parse kind [] = got [] []
-parse kind (b ∷ t) = readRecords 1024 kind 0 (b ∷ t)
+parse kind (b ∷ t) = readRecords nameCount kind 0 (b ∷ t)

@@ -7,7 +7,7 @@ use lib.ListN.{length, getD}
 use lib.Dec.{eqb, ltb}
 use Rattle.index.specs.declared.Kind.{Kind}
 use Rattle.index.specs.Letters.{letterCount, letters, lettersOf}
-use Rattle.index.specs.Block.{IsName, size, from, key, id, countAt, Good, count}
+use Rattle.index.specs.Block.{greatestCount, IsName, size, from, key, id, countAt, Good, count}
 
 -- One record of a set: its id, and its counts in letter order.
 pub record Entry : Type 0 where
@@ -25,7 +25,7 @@ digitsOf (suc d) n = cond (ltb n 10) ((48 + n) ∷ []) (digitsOf d (n / 10) ++ (
 unfoldable pub decimal : ℕ → List ℕ
 decimal n = digitsOf 5 n
 
--- "each letter with a count above zero, followed by the count in decimal if it is 2 or more"
+-- "each letter with a count above zero in letter order, followed by the count in decimal if it is 2 or more"
 unfoldable pub pieceOf : ℕ → ℕ → List ℕ
 pieceOf byte ℕ.zero = []
 pieceOf byte (suc ℕ.zero) = byte ∷ []
@@ -37,7 +37,7 @@ piecesOf [] cs = []
 piecesOf (l ∷ ls) [] = []
 piecesOf (l ∷ ls) (c ∷ cs) = pieceOf l c ++ piecesOf ls cs
 
--- "id in decimal, `;`, then each letter"
+-- "id in decimal without leading zeros, `;`, then each letter"
 unfoldable pub entryText : Entry → List ℕ
 entryText e = decimal (e .id) ++ (59 ∷ piecesOf letters (e .counts))
 
@@ -73,7 +73,7 @@ setOf b kind x = setFrom b x (from b kind) (size b kind)
 pub record IsEntry (kind : Kind) (e : Entry) : Type 0 where
   pub named : IsName (e .id)
   pub eight : length (e .counts) ≡ letterCount
-  pub fits : (k : ℕ) → getD (e .counts) k 0 ≤ 65535
+  pub fits : (k : ℕ) → getD (e .counts) k 0 ≤ greatestCount
   pub counted : (k : ℕ) × (0 < getD (e .counts) k 0)
   pub allowed : (k : ℕ) → lettersOf kind ≤ k → getD (e .counts) k 0 ≡ 0
 

@@ -6,6 +6,7 @@ use crate::Kind;
 use crate::LETTER_COUNT;
 use crate::NAMES;
 use crate::RECORD;
+use crate::RIGHTS;
 use crate::letters::letters_of;
 use crate::numbers::count_at;
 use crate::numbers::id_at;
@@ -81,7 +82,7 @@ fn record_good(b: &[u8], kind: Kind, i: usize) -> bool
     if id_at(b, i) >= NAMES {
         return false;
     }
-    if four_at(b, i, 4) == 0 {
+    if four_at(b, i, RIGHTS) == 0 {
         if four_at(b, i, 0) == 0 {
             return false;
         }

@@ -62,8 +62,8 @@ pub(crate) fn recount(b: &mut [u8], i: usize, less: usize, more: usize)
 {
     let mut k = 0;
     while k < LETTER_COUNT {
-        let n = count_at(b, i, k) + bit_of(more, k);
-        put_count(b, i, k, n - bit_of(less, k));
+        let count = count_at(b, i, k) + bit_of(more, k);
+        put_count(b, i, k, count - bit_of(less, k));
         k += 1;
     }
 }

@@ -1,9 +1,11 @@
 // What a crate above reads of a block. Every door answers for every input: bytes past the end count as 0.
 
+use crate::ALL;
 use crate::HEADER;
 use crate::Kind;
 use crate::LETTER_COUNT;
 use crate::RECORD;
+use crate::RIGHTS;
 use crate::letters::letter_at;
 ghost use mathlib.Core.Path.{_≡_};
 ghost use mathlib.Core.Logic.{_↔_};
@@ -67,9 +69,9 @@ fn mask_of(b: &[u8], i: u16) -> u8
     ensures { λ r. ⌜ ((k : ℕ) → k < letterCount → In k r ↔ (0 < countAt (now (b .entry)) i k)) ⌝ }
 {
     let mut m: u8 = 0;
-    for k in 0..8u8 {
-        let letter = letter_at(k as usize);
-        if 0 < count_of(b, i, k) {
+    for k in 0..LETTER_COUNT {
+        let letter = letter_at(k);
+        if 0 < count_of(b, i, k as u8) {
             m = m | letter.mask;
         }
     }
@@ -81,5 +83,5 @@ pub fn net_of(b: &[u8], i: u16) -> u8
     ensures { λ r. ⌜ Mask r (NetAt (now (b .entry)) i) ⌝ }
 {
     let m = mask_of(b, i);
-    ((m >> 4) ^ 15) & m & 15
+    ((m >> RIGHTS) ^ ALL) & m & ALL
 }

@@ -17,12 +17,12 @@ ghost use lib.ListN.{length};
 ghost use Rattle.index.specs.Block.{IsName, place, key, id, Of};
 ghost use Rattle.index.specs.Message.Change.{take, add};
 ghost use Rattle.index.specs.Places.{Gap};
-ghost use Rattle.index.specs.Edits.{half, Ready, Written, Step};
+ghost use Rattle.index.specs.Edits.{half, Ready, NewRecord, Step};
 
 // Record i is written: key, id, and each letter of the mask once.
 fn put_record(b: &mut [u8], i: usize, x: usize, y: usize, mask: usize)
     requires { ⌜ (place (i + 1) ≤ length (now b)) × IsName x × IsName y ⌝ }
-    ensures { λ _. ⌜ Written i x y mask (now (b .entry)) (now (b .exit)) ⌝ }
+    ensures { λ _. ⌜ NewRecord i x y mask (now (b .entry)) (now (b .exit)) ⌝ }
 {
     let at = HEADER + RECORD * i;
     put_number(b, at, x);

@@ -20,48 +20,48 @@ ghost use Rattle.index.specs.Block.{IsName};
 ghost use Rattle.index.specs.Letters.{letterCount, letters, lettersOf};
 ghost use Rattle.index.specs.Text.{Entry, IsSet};
 ghost use Rattle.index.specs.Reading.{readLetter, readCounts, total, readRecord};
-ghost use Rattle.index.specs.Reading.Read.{got};
-ghost use Rattle.index.specs.Pieces.{seen, seenCounts, seenEntry, rest};
+ghost use Rattle.index.specs.Reading.Parsed.{got};
+ghost use Rattle.index.specs.Pieces.{SeesNumber, SeesLetters, SeesEntry, rest};
 
 // The count of letter k at the cursor, of which the first `may` may stand there: 0 where the letter does not.
 fn counted(text: &[u8], c: Cursor, may: usize, k: usize) -> Piece
     requires { ⌜ k < letterCount ⌝ }
-    ensures { λ r. ⌜ seen (now (text .entry)) r ≡ readLetter (ltb 0 (may - k)) (getD letters k 0) (drop (c .at) (now (text .entry))) ⌝ }
+    ensures { λ r. ⌜ SeesNumber (now (text .entry)) r (readLetter (ltb 0 (may - k)) (getD letters k 0) (drop (c .at) (now (text .entry)))) ⌝ }
 {
     let at = c.at;
     if text.len() <= at {
-        return Piece::Found(0, c);
+        return Piece::Number(0, c);
     }
     if may <= k {
-        return Piece::Found(0, c);
+        return Piece::Number(0, c);
     }
     let l = letter_at(k);
     if text[at] == l.byte {
         count(text, Cursor { at: at + 1 })
     } else {
-        Piece::Found(0, c)
+        Piece::Number(0, c)
     }
 }
 
-// The eight counts at the cursor, into `out`; the answer's number is 8.
+// The counts of the letters at the cursor, into `out`.
 fn counts(text: &[u8], c: Cursor, kind: Kind, out: &mut [usize; LETTER_COUNT]) -> Piece
     requires { ⌜ length (now out) ≡ letterCount ⌝ }
     ensures { λ r. ⌜ length (now (out .exit)) ≡ letterCount ⌝ }
-    ensures { λ r. ⌜ seenCounts (now (text .entry)) r (now (out .exit)) ≡ readCounts (lettersOf kind) letters (drop (c .at) (now (text .entry))) ⌝ }
+    ensures { λ r. ⌜ SeesLetters (now (text .entry)) r (now (out .exit)) (readCounts (lettersOf kind) letters (drop (c .at) (now (text .entry)))) ⌝ }
 {
     let may = letters_of(kind);
     let mut here = c;
     let mut k = 0;
     while k < LETTER_COUNT {
         let piece = counted(text, here, may, k);
-        let Piece::Found(n, next) = piece else {
+        let Piece::Number(n, next) = piece else {
             return piece;
         };
         out[k] = n;
         here = next;
         k += 1;
     }
-    Piece::Found(LETTER_COUNT, here)
+    Piece::Letters(here)
 }
 
 // Some letter is counted.
@@ -89,22 +89,22 @@ pub(crate) fn read_record(
 ) -> Piece
     requires { ⌜ (length (now out) ≡ letterCount) × IsName least ⌝ }
     ensures { λ r. ⌜ length (now (out .exit)) ≡ letterCount ⌝ }
-    ensures { λ r. ⌜ seenEntry (now (text .entry)) r (now (out .exit)) ≡ readRecord kind least (drop (c .at) (now (text .entry))) ⌝ }
+    ensures { λ r. ⌜ SeesEntry (now (text .entry)) r (now (out .exit)) (readRecord kind least (drop (c .at) (now (text .entry)))) ⌝ }
 {
     let id = number(text, c, least, GREATEST_NAME);
-    let Piece::Found(name, after) = id else {
+    let Piece::Number(name, after) = id else {
         return id;
     };
     let sign = mark(text, after);
-    let Piece::Found(_, start) = sign else {
+    let Piece::Mark(start) = sign else {
         return sign;
     };
     let pieces = counts(text, start, kind, out);
-    let Piece::Found(_, next) = pieces else {
+    let Piece::Letters(next) = pieces else {
         return pieces;
     };
     if is_counted(out) {
-        Piece::Found(name, next)
+        Piece::Number(name, next)
     } else {
         Piece::Wrong(next)
     }
@@ -122,11 +122,11 @@ pub(crate) fn take_record(
     requires { ⌜ length (now out) ≡ letterCount ⌝ }
     ensures { λ r. ⌜ length (now (out .exit)) ≡ letterCount ⌝ }
     ensures { λ r. ⌜ ((e : Entry) (es : List Entry) → IsSet kind (e ∷ es) → drop (c .at) (now (text .entry)) ≡ rest begun (e ∷ es)
-        → seenEntry (now (text .entry)) r (now (out .exit)) ≡ got e (rest true es)) ⌝ }
+        → SeesEntry (now (text .entry)) r (now (out .exit)) (got e (rest true es))) ⌝ }
 {
     if begun {
         let sign = mark(text, c);
-        let Piece::Found(_, start) = sign else {
+        let Piece::Mark(start) = sign else {
             return sign;
         };
         return read_record(text, start, kind, 0, out);

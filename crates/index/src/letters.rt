@@ -2,6 +2,7 @@
 
 use crate::Kind;
 use crate::LETTER_COUNT;
+use crate::RIGHTS;
 ghost use mathlib.Core.Path.{_≡_};
 ghost use Prim.Native.Nat.{_<_, _^_};
 ghost use lib.ListN.{getD};
@@ -13,7 +14,7 @@ pub struct Letter {
     pub byte: u8,
 }
 
-pub const LETTERS: [Letter; 8] = [
+pub const LETTERS: [Letter; LETTER_COUNT] = [
     Letter {
         mask: 1,
         byte: b'M',
@@ -61,8 +62,8 @@ pub(crate) fn letters_of(kind: Kind) -> usize
     ensures { λ r. ⌜ r ≡ lettersOf kind ⌝ }
 {
     match kind {
-        Kind::Membership => 4,
+        Kind::Membership => RIGHTS,
         Kind::Permission => LETTER_COUNT,
-        Kind::Filter => 4,
+        Kind::Filter => RIGHTS,
     }
 }

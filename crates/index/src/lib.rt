@@ -42,6 +42,12 @@ pub const RECORD: usize = 20;
 // How many letters there are.
 pub const LETTER_COUNT: usize = 8;
 
+// How many rights there are: they are the first letters.
+pub const RIGHTS: usize = 4;
+
+// The mask of all of them.
+pub const ALL: u8 = 15;
+
 // Names are the numbers below this one.
 pub const NAMES: usize = 1024;
 

@@ -9,11 +9,11 @@ use crate::run::run;
 ghost use Rattle.index.specs.Numbers.{Answers, Each};
 ghost use Rattle.index.specs.Calls.{listNeeds, CarriesOut};
 ghost use Rattle.index.specs.Checks.{Says};
-ghost use Rattle.index.specs.Edits.{Passes};
+ghost use Rattle.index.specs.Edits.{PassesTest};
 
 // One change passes the test of this number: 3 its kind, 4 its names, 5 its mask.
 fn passes(test: u8, n: u64) -> bool
-    ensures { λ r. ⌜ Says (Passes test n) r ⌝ }
+    ensures { λ r. ⌜ Says (PassesTest test n) r ⌝ }
 {
     let h = half_in(n);
     if test == 3 {
@@ -45,7 +45,7 @@ fn passes(test: u8, n: u64) -> bool
 
 // Each change of the list passes the test.
 fn all_pass(test: u8, changes: &[u64]) -> bool
-    ensures { λ r. ⌜ Says (Each (Passes test) (now (changes .entry))) r ⌝ }
+    ensures { λ r. ⌜ Says (Each (PassesTest test) (now (changes .entry))) r ⌝ }
 {
     let mut i = 0;
     while i < changes.len() {

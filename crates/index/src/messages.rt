@@ -5,6 +5,7 @@ use crate::NAMES;
 use crate::carry::carry;
 use crate::checks::tested;
 use crate::kinds::kind_of;
+use crate::letters::letters_of;
 use crate::numbers::number_at;
 ghost use mathlib.Core.Path.{_≡_};
 ghost use mathlib.Core.List.{_++_};
@@ -82,11 +83,7 @@ fn names_good(m: &[u8], i: usize, absent: u8) -> bool
 pub(crate) fn mask_end(kind: Kind) -> usize
     ensures { λ r. ⌜ r ≡ 2 ^ lettersOf kind ⌝ }
 {
-    match kind {
-        Kind::Membership => 16,
-        Kind::Permission => 256,
-        Kind::Filter => 16,
-    }
+    1 << letters_of(kind)
 }
 
 // The mask of the half at byte i, which is there unless the flags are `absent`, is not 0, nor above 15 for M or F.

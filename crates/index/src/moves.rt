@@ -11,12 +11,12 @@ ghost use lib.ListN.{length, getD};
 ghost use Rattle.index.specs.Block.{headerLength, greatestLength, recordLength, place, size, records};
 ghost use Rattle.index.specs.Bytes.{Four, Shifted, Spliced};
 ghost use Rattle.index.specs.Checks.{Zero};
-ghost use Rattle.index.specs.Edits.{Filled, Headed, Resized, Opens};
+ghost use Rattle.index.specs.Edits.{Overwritten, Headed, Resized, Opens};
 
 // The bytes lo to hi - 1 become zero.
 pub(crate) fn clear(b: &mut [u8], lo: usize, hi: usize)
     requires { ⌜ (lo ≤ hi) × (hi ≤ length (now b)) ⌝ }
-    ensures { λ _. ⌜ Filled lo hi (λ u. 0) (now (b .entry)) (now (b .exit)) ⌝ }
+    ensures { λ _. ⌜ Overwritten lo hi (λ u. 0) (now (b .entry)) (now (b .exit)) ⌝ }
 {
     let mut t = lo;
     while t < hi {
@@ -28,7 +28,7 @@ pub(crate) fn clear(b: &mut [u8], lo: usize, hi: usize)
 // The bytes lo to hi - 1 become those that stand d places higher.
 fn move_down(b: &mut [u8], lo: usize, hi: usize, d: usize)
     requires { ⌜ (lo ≤ hi) × (hi + d ≤ length (now b)) ⌝ }
-    ensures { λ _. ⌜ Filled lo hi (λ u. getD (now (b .entry)) (u + d) 0) (now (b .entry)) (now (b .exit)) ⌝ }
+    ensures { λ _. ⌜ Overwritten lo hi (λ u. getD (now (b .entry)) (u + d) 0) (now (b .entry)) (now (b .exit)) ⌝ }
 {
     let mut t = lo;
     while t < hi {
@@ -40,7 +40,7 @@ fn move_down(b: &mut [u8], lo: usize, hi: usize, d: usize)
 // The bytes lo to hi - 1 become those that stand d places lower.
 fn move_up(b: &mut [u8], lo: usize, hi: usize, d: usize)
     requires { ⌜ (lo ≤ hi) × (hi ≤ length (now b)) × (d ≤ lo) ⌝ }
-    ensures { λ _. ⌜ Filled lo hi (λ u. getD (now (b .entry)) (u - d) 0) (now (b .entry)) (now (b .exit)) ⌝ }
+    ensures { λ _. ⌜ Overwritten lo hi (λ u. getD (now (b .entry)) (u - d) 0) (now (b .entry)) (now (b .exit)) ⌝ }
 {
     let mut t = hi;
     while lo < t {

@@ -6,17 +6,19 @@ ghost use Prim.Native.Nat.{ℕ, _≤_, _<_};
 ghost use mathlib.Core.List.{List};
 ghost use lib.ListN.{drop};
 ghost use Rattle.index.specs.Reading.{digit, reaches as reachable, ends, readDigits, readNumber, readCount, readMark};
-ghost use Rattle.index.specs.Pieces.{seen};
+ghost use Rattle.index.specs.Pieces.{SeesNumber, SeesMark};
 
 // A place in a text.
 pub struct Cursor {
     pub at: usize,
 }
 
-// What stands at a place in a text: a number, with the place after it, or nothing that may stand there, with the place
-// of the first byte that may not.
+// What stands at a place in a text, with the place after it: an id or a count, `;`, or the letters of a record. Or nothing
+// that may stand there, with the place of the first byte that may not.
 pub enum Piece {
-    Found(usize, Cursor),
+    Number(usize, Cursor),
+    Mark(Cursor),
+    Letters(Cursor),
     Wrong(Cursor),
 }
 
@@ -47,10 +49,10 @@ fn reaches(least: usize, most: usize, d: usize, lo: usize, hi: usize) -> bool
 
 // The number n, which ends at the cursor and is to be at least `least`.
 fn ended(least: usize, n: usize, c: Cursor) -> Piece
-    ensures { λ r. ⌜ ((t : List ℕ) → seen t r ≡ ends least n (drop (c .at) t)) ⌝ }
+    ensures { λ r. ⌜ ((t : List ℕ) → SeesNumber t r (ends least n (drop (c .at) t))) ⌝ }
 {
     if least <= n {
-        Piece::Found(n, c)
+        Piece::Number(n, c)
     } else {
         Piece::Wrong(c)
     }
@@ -59,7 +61,7 @@ fn ended(least: usize, n: usize, c: Cursor) -> Piece
 // The number from `least` to `most` that starts with n and goes on with the digits at the cursor.
 fn digits(text: &[u8], c: Cursor, least: usize, most: usize, n: usize) -> Piece
     requires { ⌜ (n ≤ most) × (least < 100000) × (most < 100000) ⌝ }
-    ensures { λ r. ⌜ seen (now (text .entry)) r ≡ readDigits least most n (drop (c .at) (now (text .entry))) ⌝ }
+    ensures { λ r. ⌜ SeesNumber (now (text .entry)) r (readDigits least most n (drop (c .at) (now (text .entry)))) ⌝ }
 {
     let mut at = c.at;
     let mut sum = n;
@@ -82,7 +84,7 @@ fn digits(text: &[u8], c: Cursor, least: usize, most: usize, n: usize) -> Piece
 // enough; only where it is not, the digits are read again, to know at which of them it is wrong.
 pub(crate) fn number(text: &[u8], c: Cursor, least: usize, most: usize) -> Piece
     requires { ⌜ (least < 100000) × (most < 100000) ⌝ }
-    ensures { λ r. ⌜ seen (now (text .entry)) r ≡ readNumber least most (drop (c .at) (now (text .entry))) ⌝ }
+    ensures { λ r. ⌜ SeesNumber (now (text .entry)) r (readNumber least most (drop (c .at) (now (text .entry)))) ⌝ }
 {
     let at = c.at;
     if text.len() <= at {
@@ -91,7 +93,7 @@ pub(crate) fn number(text: &[u8], c: Cursor, least: usize, most: usize) -> Piece
     let b = text[at];
     if b == b'0' {
         if least == 0 {
-            return Piece::Found(0, Cursor { at: at + 1 });
+            return Piece::Number(0, Cursor { at: at + 1 });
         }
         return Piece::Wrong(c);
     }
@@ -99,7 +101,7 @@ pub(crate) fn number(text: &[u8], c: Cursor, least: usize, most: usize) -> Piece
         return Piece::Wrong(c);
     }
     let any = digits(text, c, 0, most, 0);
-    if let Piece::Found(n, _) = any {
+    if let Piece::Number(n, _) = any {
         if least <= n {
             return any;
         }
@@ -109,30 +111,30 @@ pub(crate) fn number(text: &[u8], c: Cursor, least: usize, most: usize) -> Piece
 
 // The count at the cursor, which stands after a letter.
 pub(crate) fn count(text: &[u8], c: Cursor) -> Piece
-    ensures { λ r. ⌜ seen (now (text .entry)) r ≡ readCount (drop (c .at) (now (text .entry))) ⌝ }
+    ensures { λ r. ⌜ SeesNumber (now (text .entry)) r (readCount (drop (c .at) (now (text .entry)))) ⌝ }
 {
     let at = c.at;
     if text.len() <= at {
-        return Piece::Found(1, c);
+        return Piece::Number(1, c);
     }
     let b = text[at];
     if is_digit(b) {
         number(text, c, 2, GREATEST_COUNT)
     } else {
-        Piece::Found(1, c)
+        Piece::Number(1, c)
     }
 }
 
 // `;` at the cursor.
 pub(crate) fn mark(text: &[u8], c: Cursor) -> Piece
-    ensures { λ r. ⌜ seen (now (text .entry)) r ≡ readMark (drop (c .at) (now (text .entry))) ⌝ }
+    ensures { λ r. ⌜ SeesMark (now (text .entry)) r (readMark (drop (c .at) (now (text .entry)))) ⌝ }
 {
     let at = c.at;
     if text.len() <= at {
         return Piece::Wrong(c);
     }
     if text[at] == b';' {
-        Piece::Found(59, Cursor { at: at + 1 })
+        Piece::Mark(Cursor { at: at + 1 })
     } else {
         Piece::Wrong(c)
     }

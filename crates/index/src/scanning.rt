@@ -7,12 +7,7 @@ use crate::entries::read_record;
 use crate::reading::Cursor;
 use crate::reading::Piece;
 use crate::reading::mark;
-ghost use mathlib.Core.Path.{_≡_};
-ghost use Prim.Native.Nat.{ℕ, _-_};
-ghost use mathlib.Core.List.{List};
-ghost use lib.ListN.{length};
-ghost use Rattle.index.specs.Reading.Read.{wrong};
-ghost use Rattle.index.specs.Pieces.{seen, Scanned};
+ghost use Rattle.index.specs.Pieces.{Placed, Scanned};
 
 // What a text is: of a set with so many records, or of no set, and wrong at a place.
 pub enum Scan {
@@ -22,16 +17,15 @@ pub enum Scan {
 
 // What a text is that has a wrong piece.
 fn refused(text: &[u8], piece: Piece) -> Scan
-    ensures { λ r. ⌜ ((s : List ℕ) → seen (now (text .entry)) piece ≡ wrong s → r ≡ Scan.Wrong (length (now (text .entry)) - length s)) ⌝ }
+    ensures { λ r. ⌜ Placed (now (text .entry)) piece r ⌝ }
 {
-    let c = match piece {
-        Piece::Found(_, next) => next,
-        Piece::Wrong(place) => place,
+    let Piece::Wrong(place) = piece else {
+        return Scan::Wrong(0);
     };
-    if text.len() < c.at {
+    if text.len() < place.at {
         return Scan::Wrong(text.len());
     }
-    Scan::Wrong(c.at)
+    Scan::Wrong(place.at)
 }
 
 // Reads a text through, and changes nothing.
@@ -47,7 +41,7 @@ pub(crate) fn scan_text(text: &[u8], kind: Kind) -> Scan
     let mut n = 0;
     loop {
         let entry = read_record(text, here, kind, least, &mut out);
-        let Piece::Found(name, next) = entry else {
+        let Piece::Number(name, next) = entry else {
             return refused(text, entry);
         };
         n += 1;
@@ -59,7 +53,7 @@ pub(crate) fn scan_text(text: &[u8], kind: Kind) -> Scan
             return Scan::Wrong(at);
         }
         let sign = mark(text, next);
-        let Piece::Found(_, start) = sign else {
+        let Piece::Mark(start) = sign else {
             return refused(text, sign);
         };
         here = start;

@@ -45,7 +45,7 @@ pub(crate) fn fill(b: &mut [u8], first: usize, text: &[u8], kind: Kind, key: usi
     let mut here = Cursor { at: 0 };
     let mut i = 0;
     while i < n {
-        let Piece::Found(name, next) = take_record(text, here, kind, 0 < i, &mut counts) else {
+        let Piece::Number(name, next) = take_record(text, here, kind, 0 < i, &mut counts) else {
             return;
         };
         put_entry(b, first + i, key, name, &counts);

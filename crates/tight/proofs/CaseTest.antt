@@ -9,7 +9,7 @@ use Rattle.index.specs.Message.{kindOf, changes}
 use Rattle.index.specs.Calls.{Message}
 use Rattle.index.specs.Text.{textOf, setOf}
 use Rattle.index.proofs.MessageTest.{messageTest, message-test, lastOf}
-use Rattle.tight.specs.Examples.{Case, Says}
+use Rattle.tight.specs.Examples.{Case, Shows}
 use Rattle.tight.proofs.BlockTest.{blockTest}
 use Rattle.tight.proofs.RightsTest.{rightsTest, rights-test, everywhereTest, everywhere-test}
 use Rattle.tight.proofs.TextTest.{setTest, text-test, wrongTest, wrong-test, empty-text}
@@ -29,7 +29,7 @@ Test (Case.refused b m n) =
     × (changeTest (changes m) b n ≡ true)
 
 -- Each test means what its case says.
-means : (c : Case) → Test c → Says c
+means : (c : Case) → Test c → Shows c
 means (Case.rights b u o mask) e = rights-test b u mask o e
 means (Case.everywhere b u mask) e = everywhere-test b u mask e
 means (Case.text b kind x t n) e = text-test b kind x t n (e .0) (e .1) (e .2)
@@ -39,6 +39,6 @@ means (Case.accepted b m b′) e = subst (λ (d : List ℕ). Message b m (0, d))
 means (Case.refused b m n) e =
     refused-test (e .0) (lastOf (e .0) (e .1)) b m n (message-test (e .0) m (e .1) (e .2)) (e .3) (e .4)
 
-pub all-mean : (cs : List Case) → Each Test cs → Each Says cs
+pub all-mean : (cs : List Case) → Each Test cs → Each Shows cs
 all-mean [] e = tt
 all-mean (c ∷ cs) e = (means c (e .0), all-mean cs (e .1))

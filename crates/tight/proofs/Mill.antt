@@ -1,26 +1,38 @@
 -- The mill's own case: two appointments give the right to read on 9 to 1, then one ends, then the other.
-use Prim.Native.Nat.{ℕ}
-use mathlib.Core.Path.{_≡_, refl}
+use Prim.Native.Nat.{ℕ, _≤_}
+use mathlib.Core.Path.{_≡_, refl, sym}
 use mathlib.Core.List.{List, [], _∷_, List·Permᴰ}
+use mathlib.Core.Logic.{inr}
+use lib.ListN.{length}
 use native.Mathlib.Omega.{arith}
 use Rattle.index.specs.declared.Kind.the-variants.{Permission}
-use Rattle.index.specs.Letters.{lettersOf}
-use Rattle.index.specs.Block.{number, countAt, count}
+use Rattle.index.specs.Letters.{In, lettersOf}
+use Rattle.index.specs.Block.{number, Sized, countAt, count}
 use Rattle.index.specs.Message.{kindOf, kindNumber, flags, halfAt, previous, new, moves}
-use Rattle.index.specs.Calls.{Message}
-use Rattle.index.specs.History.{Sent, Accepted, Statement, left, others, after, History, movesOf, tally}
+use Rattle.index.specs.Calls.{blockNeeds, Makes, makeNeeds, Message}
+use Rattle.index.specs.History.{Sent, Accepted, Labelled, Statement, left, others, after, History, movesOf, tally}
 use Rattle.index.specs.History.Sent.{plain}
 use Rattle.index.specs.History.Accepted.{next}
 use Rattle.index.specs.History.History.{accepted}
+use Rattle.index.proofs.Firsts.{All, first-all}
 use Rattle.index.proofs.GoodTest.{good-test}
-use Rattle.index.proofs.MillHistory.{by, made}
+use Rattle.index.proofs.Masks.{four}
 use Rattle.rights.specs.Held.{Holds}
-use Rattle.rights.specs.Questions.{Limited, Full}
+use Rattle.rights.specs.Questions.{questionNeeds, Limited, HoldsAll, Full, Short}
 use Rattle.tight.specs.Blocks.{nothing, reads, give, withdraw}
-use Rattle.tight.specs.Programs.{Messages, MeetsMessage, Questions, MeetsFull, run}
+use Rattle.tight.specs.Programs.{Program, Meets, run}
 use Rattle.tight.proofs.Programs.{accepted-full, runs, answers}
 use Rattle.tight.proofs.Starred.{appointments-right}
 use Rattle.tight.proofs.Demand3.{first-half, second-half}
+
+-- "It makes an empty index block": what make leaves of any block of that length.
+pub made : (b : List ℕ) → length b ≡ length nothing → Makes b (0, nothing)
+unfolding Makes makeNeeds Sized number countAt lettersOf
+made b e = inr (omega arith, (refl, good-test nothing refl, sym e, refl))
+
+-- A message, with the label of the appointment that it speaks for.
+abbrev pub by : ℕ → List ℕ → Labelled
+by l m = record { label = l; sent = plain m }
 
 -- ---- message by message
 
@@ -55,10 +67,30 @@ pub never-lost : Holds (reads 1) 1 9 1
 unfolding Limited
 never-lost = accepted-full (reads 1) 1 9 15 2 held-by-one .1 .1 1 (omega arith) .0 refl .0
 
--- Whatever programs meet the promises answer so.
-pub still-answered : (f : Messages) (g : Questions) → MeetsMessage f → MeetsFull g
-    → g (run f nothing (give ∷ give ∷ withdraw ∷ [])) 1 9 15 ≡ (0, 2)
-still-answered f g meets-f meets-g = rw (runs f meets-f (give ∷ give ∷ withdraw ∷ []) one-ended) (answers g meets-g (reads 1) 1 9 15 held-by-one)
+-- The short question, on the same block: yes to reading, no to all four rights.
+question-holds : (request : ℕ) → 1 ≤ request → request ≤ 15 → All (questionNeeds (reads 1) 1 9 request)
+unfolding questionNeeds blockNeeds
+question-holds request l h =
+    let q = accepted-full (reads 1) 1 9 15 2 held-by-one .0 in (q .0, (q .1 .0, (q .1 .1 .0, ((l, h), tt))))
+
+pub yes-to-one : Short (reads 1) 1 9 2 (0, 1)
+unfolding Short HoldsAll
+yes-to-one =
+    let all = four (λ k. In k 2 → Holds (reads 1) 1 9 k) (λ i. absurd (omega arith)) (λ i. never-lost) (λ i. absurd (omega arith)) (λ i. absurd (omega arith)) in
+    first-all _ _ (0, 1) (questionNeeds (reads 1) 1 9 2) (question-holds 2 (omega arith) (omega arith))
+    (refl, omega arith, ((λ e. all), (λ h. refl)))
+
+pub no-to-all : Short (reads 1) 1 9 15 (0, 0)
+unfolding Short Limited HoldsAll
+no-to-all =
+    let no : HoldsAll (reads 1) 1 9 15 → ⊥ =
+    λ all. omega (arith, accepted-full (reads 1) 1 9 15 2 held-by-one .1 .1 0 (omega arith) .1 (all 0 (omega arith) refl, refl)) in
+    first-all _ _ (0, 0) (questionNeeds (reads 1) 1 9 15) (question-holds 15 (omega arith) (omega arith))
+    (refl, omega arith, ((λ e. absurd (omega arith)), (λ h. absurd (no h))))
+
+-- Whatever program meets the promises answers so.
+pub still-answered : (p : Program) → Meets p → p .rights (run p nothing (give ∷ give ∷ withdraw ∷ [])) 1 9 15 ≡ (0, 2)
+still-answered p meets = rw (runs p meets (give ∷ give ∷ withdraw ∷ []) one-ended) (answers p meets held-by-one)
 
 -- In every order in which the four messages are accepted, the block is empty again.
 pub both-gone : (ms : List Sent) (b : List ℕ) → List·Permᴰ ms (plain give ∷ plain give ∷ plain withdraw ∷ plain withdraw ∷ []) → Accepted nothing ms b

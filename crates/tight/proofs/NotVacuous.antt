@@ -7,23 +7,25 @@ use native.Mathlib.Omega.{arith}
 use Rattle.index.specs.declared.Kind.the-variants.{Permission}
 use Rattle.index.specs.Letters.{letters, lettersOf}
 use Rattle.index.specs.Numbers.{Answers, Each}
-use Rattle.index.specs.Block.{number, countAt, countFrom, count, room, Sized}
-use Rattle.index.specs.Message.{IsKind, kindOf, flags, halfAt, previous, new, changes, standing, WellFormed, Named, Masked}
+use Rattle.index.specs.Block.{number, countAt, countFrom, count, room, Sized, nameCount, Good}
+use Rattle.index.specs.Message.{IsKind, kindOf, flags, halfAt, previous, new, changes, ownCount, WellFormed, Named, Masked, Carried}
 use Rattle.index.specs.Text.{Writes, digitsOf, decimal, pieceOf, piecesOf, entryText, textOf, countsAt, setFrom, setOf}
 use Rattle.index.specs.Reading.{digit, reaches, readDigits, readNumber, readCount, readLetter, readCounts, readMark, readRecord, readMore, readRecords, parse}
-use Rattle.index.specs.Calls.{blockNeeds, makeNeeds, messageNeeds, setNeeds, writeNeeds, readNeeds, Makes, Message, WritesSet, ReadsSet}
-use Rattle.index.proofs.Firsts.{All, first-all, passed-first, refuses, answers-first}
+use Rattle.index.specs.Calls.{blockNeeds, makeNeeds, messageNeeds, setNeeds, writeNeeds, readNeeds, Makes, Message, WritesSet, ReadsSet, listNeeds, CarriesOut}
+use Rattle.index.proofs.Firsts.{All, first-all, passed-first, refuses, answers-first, first-passed}
 use Rattle.index.proofs.ReadSets.{parse-sound}
 use Rattle.index.proofs.GoodTest.{good-test}
-use Rattle.index.proofs.MillHistory.{made}
-use Rattle.rights.specs.Questions.{questionNeeds, Limited, HoldsAll, Full, Short}
-use Rattle.tight.specs.Blocks.{zeros, half, giving, moving, nothing, reads, give, withdraw}
+use Rattle.rights.specs.Questions.{questionNeeds, Full, Short}
+use Rattle.tight.specs.Blocks.{zeros, halfBytes, giving, moving, nothing, reads, give, withdraw}
 use Rattle.tight.specs.Examples.{twoRecords}
-use Rattle.tight.specs.EachNumber.{MakeGives, MessageGives, WriteGives, ReadGives, QuestionsGive, makeNumbers, messageNumbers, writeNumbers, readNumbers, questionNumbers}
-use Rattle.tight.proofs.Programs.{accepted-full}
+use Rattle.tight.specs.EachNumber.{MakeGives, MessageGives, WriteGives, ReadGives, QuestionsGive, makeNumbers, messageNumbers, writeNumbers, readNumbers, questionNumbers, ListGives}
 use Rattle.tight.proofs.Starred.{_and_, texts-right, limits-right}
-use Rattle.tight.proofs.RefusedTest.{refused-test}
-use Rattle.tight.proofs.Mill.{first-given, both-withdrawn, held-by-one}
+use Rattle.tight.proofs.RefusedTest.{refused-test, changeTest, change-test}
+use Rattle.tight.proofs.Mill.{made, first-given, both-withdrawn, held-by-one, no-to-all}
+use mathlib.Core.Bool.{Bool, true, false}
+use Rattle.index.specs.Listed.{packed, kindIn, halfIn, changeIn, changesIn}
+use Rattle.index.proofs.ListTests.{ownNeeds}
+use Rattle.tight.proofs.BlockTest.{blockTest, block-test}
 
 -- ---- a requirement that does not hold gives its number
 
@@ -37,6 +39,10 @@ module _ (b : List ℕ) (r : ℕ) (above : 0 < r) where
   message-gives : (m : List ℕ) → Answers (messageNeeds b m) r → MessageGives r
   unfolding Message
   message-gives m a = (b, m, b, refuses _ _ (messageNeeds b m) not-zero a)
+
+  list-gives : (cs : List ℕ) → Answers (listNeeds b cs) r → ListGives r
+  unfolding CarriesOut
+  list-gives cs a = (b, cs, b, refuses _ _ (listNeeds b cs) not-zero a)
 
   sets-give : (kind x : ℕ) → Answers (setNeeds b kind x) r → WriteGives r × ReadGives r
   unfolding WritesSet writeNeeds ReadsSet readNeeds
@@ -52,19 +58,19 @@ module _ (b : List ℕ) (r : ℕ) (above : 0 < r) where
       (b, u, o, request, 0, 0, refuses _ _ ts not-zero a, refuses _ _ ts not-zero a)
 
   -- Every call but make.
-  calls-give : Answers (blockNeeds b) r → MessageGives r × (WriteGives r × ReadGives r) × QuestionsGive r
-  unfolding messageNeeds setNeeds questionNeeds
+  calls-give : Answers (blockNeeds b) r → MessageGives r × (WriteGives r × ReadGives r) × QuestionsGive r × ListGives r
+  unfolding messageNeeds setNeeds questionNeeds listNeeds
   calls-give a =
       let bs = blockNeeds b in
-      (message-gives [] (first bs _ a), sets-give 1 0 (first bs _ a), questions-give 0 0 1 (first bs _ a))
+      (message-gives [] (first bs _ a), sets-give 1 0 (first bs _ a), questions-give 0 0 1 (first bs _ a), list-gives [] (first bs _ a))
 
 -- ---- the block: one of no bytes, and one whose header is all zero
 
-no-bytes : MessageGives 1 × (WriteGives 1 × ReadGives 1) × QuestionsGive 1
+no-bytes : MessageGives 1 × (WriteGives 1 × ReadGives 1) × QuestionsGive 1 × ListGives 1
 unfolding blockNeeds Sized
 no-bytes = calls-give [] 1 (omega arith) (inl ((λ s. omega (arith, s .0)), refl))
 
-no-header : MessageGives 2 × (WriteGives 2 × ReadGives 2) × QuestionsGive 2
+no-header : MessageGives 2 × (WriteGives 2 × ReadGives 2) × QuestionsGive 2 × ListGives 2
 unfolding blockNeeds Sized number
 no-header =
     calls-give (zeros 16) 2 (omega arith) (inr ((omega arith, omega arith), inl ((λ g. omega (arith, g .m-offset)), refl)))
@@ -75,7 +81,7 @@ past-block : (us : List (ℕ × Type 0)) (r : ℕ) → Answers us r → Answers 
 unfolding blockNeeds Sized number countAt lettersOf
 past-block us r a = inr ((omega arith, omega arith), inr (good-test nothing refl, a))
 
--- Kind 0, and key 1024.
+-- Kind 0, and key nameCount.
 no-kind : WriteGives 3 × ReadGives 3
 unfolding setNeeds IsKind
 no-kind = sets-give nothing 3 (omega arith) 0 9 (past-block _ 3 (inl ((λ k. omega (arith, k .0)), refl)))
@@ -83,13 +89,13 @@ no-kind = sets-give nothing 3 (omega arith) 0 9 (past-block _ 3 (inl ((λ k. ome
 no-key : WriteGives 4 × ReadGives 4
 unfolding setNeeds IsKind
 no-key =
-    sets-give nothing 4 (omega arith) 1 1024
+    sets-give nothing 4 (omega arith) 1 nameCount
     (past-block _ 4 (inr ((omega arith, omega arith), inl ((λ n. omega (arith, n)), refl))))
 
--- User 1024, and request 0.
+-- User nameCount, and request 0.
 no-user : QuestionsGive 4
 unfolding questionNeeds
-no-user = questions-give nothing 4 (omega arith) 1024 9 15 (past-block _ 4 (inl ((λ n. omega (arith, n .0)), refl)))
+no-user = questions-give nothing 4 (omega arith) nameCount 9 15 (past-block _ 4 (inl ((λ n. omega (arith, n .0)), refl)))
 
 no-request : QuestionsGive 5
 unfolding questionNeeds
@@ -102,8 +108,8 @@ no-message : MessageGives 3
 unfolding messageNeeds
 no-message = message-gives nothing 3 (omega arith) [] (past-block _ 3 (inl ((λ w. omega (arith, w .twelve)), refl)))
 
--- A message with both halves has the form; one whose new half has the id 1024, and one whose new half has the mask 0.
-both-halves : (x y mask : ℕ) → WellFormed (moving 2 (half 9 1 2) (half x y mask))
+-- A message with both halves has the form; one whose new half has the id nameCount, and one whose new half has the mask 0.
+both-halves : (x y mask : ℕ) → WellFormed (moving 2 (halfBytes 9 1 2) (halfBytes x y mask))
 unfolding IsKind flags
 both-halves x y mask =
     record {
@@ -117,13 +123,13 @@ both-halves x y mask =
 no-name : MessageGives 4
 unfolding messageNeeds Named flags halfAt previous new kindOf number
 no-name =
-    message-gives nothing 4 (omega arith) (moving 2 (half 9 1 2) (half 9 1024 2))
-    (past-block _ 4 (inr (both-halves 9 1024 2, inl ((λ n. omega (arith, n .1 .0 .1)), refl))))
+    message-gives nothing 4 (omega arith) (moving 2 (halfBytes 9 1 2) (halfBytes 9 nameCount 2))
+    (past-block _ 4 (inr (both-halves 9 nameCount 2, inl ((λ n. omega (arith, n .1 .0 .1)), refl))))
 
 no-mask : MessageGives 5
 unfolding messageNeeds Named Masked flags halfAt previous new kindOf number
 no-mask =
-    message-gives nothing 5 (omega arith) (moving 2 (half 9 1 2) (half 9 1 0))
+    message-gives nothing 5 (omega arith) (moving 2 (halfBytes 9 1 2) (halfBytes 9 1 0))
     (past-block _ 5
     (inr (
       both-halves 9 1 0,
@@ -132,12 +138,70 @@ no-mask =
 
 -- A withdrawal where nothing stands.
 none-stands : Message nothing withdraw (6, nothing)
-unfolding number countAt countFrom count lettersOf kindOf flags halfAt previous new changes standing
+unfolding number countAt countFrom count lettersOf kindOf flags halfAt previous new changes ownCount
 none-stands = refused-test (reads 1) nothing nothing withdraw 6 both-withdrawn refl refl
+
+-- ---- a list of one change: R for the id 1 on a key, given or withdrawn
+
+abbrev change : Bool → ℕ → ℕ → ℕ → List ℕ
+change adds kind x mask = packed adds kind x 1 mask ∷ []
+
+-- Kind 0, key nameCount and mask 0.
+list-no-kind : ListGives 3
+unfolding listNeeds IsKind kindIn packed
+list-no-kind = list-gives nothing 3 (omega arith) (change true 0 9 2) (past-block _ 3 (inl ((λ k. omega (arith, k .0 .0)), refl)))
+
+list-no-name : ListGives 4
+unfolding listNeeds IsKind kindIn halfIn packed Named
+list-no-name =
+    list-gives nothing 4 (omega arith) (change true 2 nameCount 2)
+    (past-block _ 4 (inr (((omega arith, omega arith), tt), inl ((λ n. omega (arith, n .0 .0)), refl))))
+
+list-no-mask : ListGives 5
+unfolding listNeeds IsKind kindIn halfIn packed Named Masked
+list-no-mask =
+    list-gives nothing 5 (omega arith) (change true 2 9 0)
+    (past-block _ 5
+    (inr (((omega arith, omega arith), tt), inr (((omega arith, omega arith), tt), inl ((λ n. omega (arith, n .0 .0)), refl)))))
+
+-- Where the tests are passed, the change decides.
+list-decides : (b cs : List ℕ) (o : ℕ × List ℕ) → Sized b × Good b → All (ownNeeds cs) → Carried b (changesIn cs) b o → CarriesOut b cs o
+unfolding CarriesOut listNeeds blockNeeds
+list-decides b cs o g a c = inr (g .0, inr (g .1, inr (a .0, inr (a .1 .0, inr (a .1 .1 .0, c)))))
+
+abbrev tests : List ℕ → Type 0
+tests cs = All (ownNeeds cs)
+
+one-passes : tests (change true 2 9 2) × tests (change false 2 9 2) × tests (change true 2 10 2)
+unfolding IsKind kindIn halfIn packed Named Masked kindOf lettersOf
+one-passes = (
+  (((omega arith, omega arith), tt), (((omega arith, omega arith), tt), (((omega arith, omega arith), tt), tt))),
+  (((omega arith, omega arith), tt), (((omega arith, omega arith), tt), (((omega arith, omega arith), tt), tt))),
+  (((omega arith, omega arith), tt), (((omega arith, omega arith), tt), (((omega arith, omega arith), tt), tt))),
+)
+
+-- As the mill's messages: accepted, nothing to withdraw, no count left to add to, and no room.
+list-accepted : CarriesOut nothing (change true 2 9 2) (0, reads 1)
+unfolding Message messageNeeds blockNeeds number countAt lettersOf changeIn halfIn kindIn packed kindOf flags halfAt previous new changes
+list-accepted =
+    let p = first-passed (λ n. (n, nothing)) (Carried nothing (changes give) nothing) (0, reads 1) (λ o. o .0) (λ n. refl) (messageNeeds nothing give) (omega arith) refl first-given in
+    list-decides nothing (change true 2 9 2) (0, reads 1) (p .0 .0, p .0 .1 .0) (one-passes .0) (p .1)
+
+list-refused : (b cs : List ℕ) (r : ℕ) → blockTest b ≡ true → tests cs → changeTest (changesIn cs) b r ≡ true → CarriesOut b cs (r, b)
+list-refused b cs r g a e = list-decides b cs (r, b) (block-test b g) a (change-test (changesIn cs) b r e)
+
+list-steps : CarriesOut nothing (change false 2 9 2) (6, nothing) × CarriesOut (reads 65535) (change true 2 9 2) (7, reads 65535)
+    × CarriesOut (reads 1) (change true 2 10 2) (8, reads 1)
+unfolding number countAt countFrom count room lettersOf changeIn halfIn kindIn packed kindOf ownCount
+list-steps = (
+  list-refused nothing (change false 2 9 2) 6 refl (one-passes .1) refl,
+  list-refused (reads 65535) (change true 2 9 2) 7 refl (one-passes .0) refl,
+  list-refused (reads 1) (change true 2 10 2) 8 refl (one-passes .2) refl,
+)
 
 -- ---- sets, in the block with the set `1;R` of P and key 9
 
-set-passes : (x : ℕ) → x < 1024 → All (setNeeds (reads 1) 2 x)
+set-passes : (x : ℕ) → x < nameCount → All (setNeeds (reads 1) 2 x)
 unfolding setNeeds blockNeeds Sized number countAt lettersOf IsKind
 set-passes x l = ((omega arith, omega arith), (good-test (reads 1) refl, ((omega arith, omega arith), (l, tt))))
 
@@ -157,25 +221,6 @@ no-room =
     passed-first _ (setNeeds (reads 1) 2 10) _ _ _ (set-passes 10 (omega arith))
     (inr ((_, set-written), inl ((λ fits. omega (arith, fits _ set-written)), refl)))
 
--- ---- accepted questions: user 1 holds 2 of the 15 requested, so the short answer is no
-
-both-answered : QuestionsGive 0
-unfolding Short Limited HoldsAll
-both-answered =
-    let p = accepted-full (reads 1) 1 9 15 2 held-by-one in
-    let no : HoldsAll (reads 1) 1 9 15 → ⊥ =
-    λ all. omega (arith, p .1 .1 0 (omega arith) .1 (all 0 (omega arith) refl, refl)) in (
-      reads 1,
-      1,
-      9,
-      15,
-      2,
-      0,
-      held-by-one,
-      first-all _ _ (0, 0) (questionNeeds (reads 1) 1 9 15) (p .0)
-          (refl, omega arith, ((λ e. absurd (omega arith)), (λ h. absurd (no h)))),
-    )
-
 -- ---- each number
 
 pub make-numbers : Each MakeGives makeNumbers
@@ -194,6 +239,19 @@ message-numbers =
     and (nothing, withdraw, nothing, none-stands)
     and (reads 65535, give, reads 65535, limits-right .1 .0)
     and (reads 1, giving 2 10 1 2, reads 1, limits-right .1 .1 .1 .0)
+    and tt
+
+pub list-numbers : Each ListGives messageNumbers
+list-numbers =
+    (nothing, change true 2 9 2, reads 1, list-accepted)
+    and no-bytes .3
+    and no-header .3
+    and list-no-kind
+    and list-no-name
+    and list-no-mask
+    and (nothing, change false 2 9 2, nothing, list-steps .0)
+    and (reads 65535, change true 2 9 2, reads 65535, list-steps .1)
+    and (reads 1, change true 2 10 2, reads 1, list-steps .2)
     and tt
 
 pub write-numbers : Each WriteGives writeNumbers
@@ -226,4 +284,5 @@ read-numbers =
     and tt
 
 pub question-numbers : Each QuestionsGive questionNumbers
-question-numbers = both-answered and no-bytes .2 and no-header .2 and no-user and no-request and tt
+question-numbers =
+    (reads 1, 1, 9, 15, 2, 0, held-by-one, no-to-all) and no-bytes .2 and no-header .2 and no-user and no-request and tt

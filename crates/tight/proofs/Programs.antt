@@ -1,17 +1,19 @@
--- What a program that meets its promise does: it gives the one outcome that the promise allows.
-use Prim.Native.Nat.{ℕ}
-use mathlib.Core.Path.{_≡_, refl, sym, _∙_, ap}
+-- What a program that meets its promises does: it gives the one outcome that each promise allows.
+use Prim.Native.Nat.{ℕ, _<_}
+use mathlib.Core.Path.{_≡_, refl, sym, _∙_, ap, subst}
 use mathlib.Core.List.{List, [], _∷_, map}
 use native.Mathlib.Omega.{arith}
-use Rattle.index.specs.Calls.{Message, blockNeeds}
-use Rattle.index.specs.History.{Accepted}
+use Rattle.index.specs.Calls.{Makes, Message, WritesSet, ReadsSet, blockNeeds}
+use Rattle.index.specs.History.{Accepted, Labelled, Statement, History}
 use Rattle.index.specs.History.Sent.{plain}
 use Rattle.index.specs.History.Accepted.{nothing, next}
 use Rattle.index.proofs.Firsts.{All, first-passed}
+use Rattle.index.proofs.OneCall.{one-make, one-write, one-read}
 use Rattle.index.proofs.OneMessage.{one-message}
-use Rattle.rights.specs.Questions.{questionNeeds, Limited, Full}
-use Rattle.rights.proofs.OneAnswer.{one-full}
-use Rattle.tight.specs.Programs.{Messages, MeetsMessage, Questions, MeetsFull, run}
+use Rattle.index.proofs.Unchanged.{message-unchanged}
+use Rattle.rights.specs.Questions.{questionNeeds, Limited, Full, Short}
+use Rattle.rights.proofs.OneAnswer.{one-full, one-short}
+use Rattle.tight.specs.Programs.{Program, Meets, run, Handed}
 
 -- What an accepted answer says: its requirements hold, and its mask is of the rights held.
 pub accepted-full : (b : List ℕ) (u o request mask : ℕ) → Full b u o request (0, mask)
@@ -22,14 +24,39 @@ accepted-full b u o request mask h =
     (questionNeeds b u o request) (omega arith) refl h in
     (p .0, p .1 .1)
 
-module _ (f : Messages) (meets : MeetsMessage f) where
-  pub does : {b m : List ℕ} {o : ℕ × List ℕ} → Message b m o → f b m ≡ o
-  does {b} {m} {o} h = one-message b m (f b m) o (meets b m) h
+module _ (p : Program) (meets : Meets p) where
+  -- ---- each call
 
-  pub runs : {b b′ : List ℕ} (ms : List (List ℕ)) → Accepted b (map plain ms) b′ → run f b ms ≡ b′
+  pub makes : {b : List ℕ} {o : ℕ × List ℕ} → Makes b o → p .make b ≡ o
+  makes {b} {o} h = one-make b (p .make b) o (meets .make b) h
+
+  pub does : {b m : List ℕ} {o : ℕ × List ℕ} → Message b m o → p .message b m ≡ o
+  does {b} {m} {o} h = one-message b m (p .message b m) o (meets .message b m) h
+
+  pub writes : {b : List ℕ} {kind x : ℕ} {out : List ℕ} {o : ℕ × ℕ × List ℕ} → WritesSet b kind x out o → p .write b kind x out ≡ o
+  writes {b} {kind} {x} {out} {o} h = one-write b kind x out (p .write b kind x out) o (meets .write b kind x out) h
+
+  pub reads : {b : List ℕ} {kind x : ℕ} {text : List ℕ} {o : ℕ × ℕ × List ℕ} → ReadsSet b kind x text o → p .read b kind x text ≡ o
+  reads {b} {kind} {x} {text} {o} h = one-read b kind x text (p .read b kind x text) o (meets .read b kind x text) h
+
+  pub answers : {b : List ℕ} {u o request : ℕ} {a : ℕ × ℕ} → Full b u o request a → p .rights b u o request ≡ a
+  answers {b} {u} {o} {request} {a} h = one-full b u o request (p .rights b u o request) a (meets .rights b u o request) h
+
+  pub says : {b : List ℕ} {u o request : ℕ} {a : ℕ × ℕ} → Short b u o request a → p .may b u o request ≡ a
+  says {b} {u} {o} {request} {a} h = one-short b u o request (p .may b u o request) a (meets .may b u o request) h
+
+  -- ---- messages one after the other
+
+  pub runs : {b b′ : List ℕ} (ms : List (List ℕ)) → Accepted b (map plain ms) b′ → run p b ms ≡ b′
   runs [] nothing = refl
-  runs (m ∷ ms) (next h r) = ap (λ (o : ℕ × List ℕ). run f (o .1) ms) (does h) ∙ runs ms r
+  runs (m ∷ ms) (next h r) = ap (λ (o : ℕ × List ℕ). run p (o .1) ms) (does h) ∙ runs ms r
 
-module _ (g : Questions) (meets : MeetsFull g) where
-  pub answers : (b : List ℕ) (u o request : ℕ) {a : ℕ × ℕ} → Full b u o request a → g b u o request ≡ a
-  answers b u o request {a} h = one-full b u o request (g b u o request) a (meets b u o request) h
+  pub as-history : {b b′ : List ℕ} {s s′ : List Statement} {ms : List Labelled} → Handed p b s ms b′ s′ → History b s ms b′ s′
+  as-history Handed.nothing = History.nothing
+  as-history (Handed.accepted {b = b} {m = m} e q h) =
+      History.accepted (subst (λ (n : ℕ). Message b m (n, p .message b m .1)) e (meets .message b m)) q (as-history h)
+  as-history (Handed.refused {b = b} {b′ = b′} {m = m} {s = s} {s′ = s′} {ms = ms} l h) =
+      let u = message-unchanged b m (p .message b m) (meets .message b m) l in
+      let e : p .message b m .1 ≡ b = ap (λ (o : ℕ × List ℕ). o .1) (u .1) in
+      History.refused l (subst (λ (c : List ℕ). Message b m (p .message b m .0, c)) e (meets .message b m))
+      (subst (λ (c : List ℕ). History c s ms b′ s′) e (as-history h))

@@ -9,7 +9,7 @@ use borrow.Author.Tests.{eqb-true, leb-true}
 use lib.Dec.{eqb, leb}
 use Rattle.index.specs.Letters.{letterCount, In}
 use Rattle.index.specs.Block.{Sized, Good, records, room}
-use Rattle.index.specs.Message.{WellFormed, Named, Masked, Half, Change, previous, new, changes, standing, changeNeeds, Carried}
+use Rattle.index.specs.Message.{WellFormed, Named, Masked, Half, Change, previous, new, changes, ownCount, changeNeeds, Carried}
 use Rattle.index.specs.Message.Change.{take, add}
 use Rattle.index.specs.Numbers.{Each}
 use Rattle.index.specs.Calls.{blockNeeds, messageNeeds, Message}
@@ -43,10 +43,10 @@ steps-decide b₀ b₁ b m o h g c =
 module _ (b : List ℕ) (h : Half) where
   -- Letter k is in the mask, and its count is n.
   abbrev stands : ℕ → ℕ → Bool
-  stands n k = eqb (h .mask / 2 ^ k % 2) 1 && eqb (standing b h k) n
+  stands n k = eqb (h .mask / 2 ^ k % 2) 1 && eqb (ownCount b h k) n
 
   abbrev missing : ℕ → Bool
-  missing k = eqb (standing b h k) 0
+  missing k = eqb (ownCount b h k) 0
 
   -- The change is refused with the number r.
   abbrev takeTest : ℕ → Bool
@@ -58,10 +58,10 @@ module _ (b : List ℕ) (h : Half) where
       (eqb r 8 && (all missing 0 letterCount && leb (room b) (records b)))
 
   some-stands : (n : ℕ) → some (stands n) 0 letterCount ≡ true
-      → (k : ℕ) × (k < letterCount) × In k (h .mask) × (standing b h k ≡ n)
+      → (k : ℕ) × (k < letterCount) × In k (h .mask) × (ownCount b h k ≡ n)
   some-stands n e =
       let (k, l, t) = some-at (stands n) 0 letterCount e in
-      let p = both (eqb (h .mask / 2 ^ k % 2) 1) (eqb (standing b h k) n) t in
+      let p = both (eqb (h .mask / 2 ^ k % 2) 1) (eqb (ownCount b h k) n) t in
       (k, l, eqb-true _ _ (p .0), eqb-true _ _ (p .1))
 
 abbrev pub changeTest : List Change → List ℕ → ℕ → Bool
@@ -69,7 +69,7 @@ changeTest [] b r = false
 changeTest (take h ∷ cs) b r = takeTest b h r
 changeTest (add h ∷ cs) b r = addTest b h r
 
-change-test : (cs : List Change) (b : List ℕ) (r : ℕ) → changeTest cs b r ≡ true → Carried b cs b (r, b)
+pub change-test : (cs : List Change) (b : List ℕ) (r : ℕ) → changeTest cs b r ≡ true → Carried b cs b (r, b)
 unfolding Carried changeNeeds
 change-test [] b r e = let z : _≡_ {A = ℕ} 0 1 = cc in absurd (omega arith)
 change-test (take h ∷ cs) b r e =
@@ -88,7 +88,7 @@ change-test (add h ∷ cs) b r e = go (eqb r 7) refl e
     go false q e =
         let p = both (eqb r 8) _ e in
         let (none, full) = both (all (missing b h) 0 letterCount) (leb (room b) (records b)) (p .1) in
-        let zero : (k : ℕ) → k < letterCount → standing b h k ≡ 0 =
+        let zero : (k : ℕ) → k < letterCount → ownCount b h k ≡ 0 =
         λ k l. eqb-true _ _ (all-at (missing b h) 0 letterCount none k (omega arith) l) in
         inr (
           (λ k l i. omega (arith, zero k l)),

@@ -10,7 +10,7 @@ use lib.Dec.{eqb, ltb}
 use Rattle.index.specs.Letters.{In}
 use Rattle.index.specs.Block.{IsName, Good}
 use Rattle.index.specs.Calls.{blockNeeds}
-use Rattle.index.proofs.Masks.{in-fifteen}
+use Rattle.index.proofs.Masks.{in-all}
 use Rattle.index.proofs.Tests.{both, all, all-at}
 use Rattle.rights.specs.Held.{Holds}
 use Rattle.rights.specs.Questions.{questionNeeds, Limited, Full}
@@ -48,7 +48,7 @@ module _ (b : List ℕ) (u mask : ℕ) where
   object-test : Good b → (o : ℕ) → objectTest o ≡ true → (k : ℕ) → k < 4 → In k mask ↔ (Holds b u o k × In k 15)
   object-test g o e k l =
       let s = same-true _ _ (all-at (rightTest o) 0 4 e k (omega arith) (omega arith)) in (
-        (λ i. (holds-test g u o k .0 (sym s ∙ eq-eqb _ _ i), in-fifteen k l)),
+        (λ i. (holds-test g u o k .0 (sym s ∙ eq-eqb _ _ i), in-all k l)),
         (λ h. eqb-true _ _ (s ∙ holds-test g u o k .1 (h .0))),
       )
 

@@ -5,11 +5,11 @@ use mathlib.Core.List.{List, [], _∷_, _++_}
 use Rattle.index.specs.Letters.{letters, lettersOf}
 use Rattle.index.specs.Numbers.{Each}
 use Rattle.index.specs.Block.{number, countAt, countFrom, count, room}
-use Rattle.index.specs.Message.{kindOf, kindNumber, flags, halfAt, previous, new, changes, moves, taken, added, standing}
+use Rattle.index.specs.Message.{kindOf, kindNumber, flags, halfAt, previous, new, changes, moves, taken, added, ownCount}
 use Rattle.index.specs.Text.{digitsOf, decimal, pieceOf, piecesOf, entryText, textOf, countsAt, setFrom, setOf}
 use Rattle.index.specs.Reading.{digit, reaches, readDigits, readNumber, readCount, readLetter, readCounts, readMark, readRecord, readMore, readRecords, parse}
 use Rattle.tight.specs.Blocks.{once, block, nothing, reads}
-use Rattle.tight.specs.Examples.{Case, Says, granted, masks, texts, chains, appointments, limits, cases}
+use Rattle.tight.specs.Examples.{Case, Shows, granted, masks, texts, chains, appointments, limits, cases}
 use Rattle.tight.proofs.CaseTest.{all-mean}
 
 -- The tests of one case after the other.
@@ -17,22 +17,22 @@ infixr 2 _and_
 pub _and_ : {A B : Type 0} → A → B → A × B
 a and b = (a, b)
 
-masks-right : Each Says masks
-unfolding number countAt countFrom count room lettersOf kindOf kindNumber flags halfAt previous new changes moves taken added standing
+masks-right : Each Shows masks
+unfolding number countAt countFrom count room lettersOf kindOf kindNumber flags halfAt previous new changes moves taken added ownCount
 masks-right = all-mean masks ((granted 135 ∷ [], refl, refl) and refl and (granted 79 ∷ [], refl, refl) and refl and tt)
 
-pub texts-right : Each Says texts
+pub texts-right : Each Shows texts
 unfolding number countAt letters lettersOf kindOf digitsOf decimal pieceOf piecesOf entryText textOf countsAt setFrom setOf digit reaches readDigits readNumber readCount readLetter readCounts readMark readRecord readMore readRecords parse
 texts-right =
     all-mean texts
     ((refl, refl, refl) and refl and refl and refl and refl and refl and refl and tt and (refl, refl, refl) and tt)
 
-chains-right : Each Says chains
+chains-right : Each Shows chains
 unfolding number countAt lettersOf
 chains-right = all-mean chains (refl and refl and refl and refl and tt)
 
-pub appointments-right : Each Says appointments
-unfolding number countAt countFrom count room lettersOf kindOf kindNumber flags halfAt previous new changes moves taken added standing
+pub appointments-right : Each Shows appointments
+unfolding number countAt countFrom count room lettersOf kindOf kindNumber flags halfAt previous new changes moves taken added ownCount
 appointments-right =
     all-mean appointments
     ((reads 1 ∷ [], refl, refl)
@@ -43,8 +43,8 @@ appointments-right =
     and refl
     and tt)
 
-pub limits-right : Each Says limits
-unfolding number countAt countFrom count room lettersOf kindOf kindNumber flags halfAt previous new changes moves taken added standing
+pub limits-right : Each Shows limits
+unfolding number countAt countFrom count room lettersOf kindOf kindNumber flags halfAt previous new changes moves taken added ownCount
 limits-right =
     let moved : List ℕ = block [] (once 10 1 2 ∷ []) [] 0 in
     all-mean limits
@@ -54,12 +54,12 @@ limits-right =
     and (nothing, moved ∷ [], refl, refl, refl)
     and tt)
 
-joined : (xs ys : List Case) → Each Says xs → Each Says ys → Each Says (xs ++ ys)
+joined : (xs ys : List Case) → Each Shows xs → Each Shows ys → Each Shows (xs ++ ys)
 joined [] ys p q = q
 joined (x ∷ xs) ys p q = (p .0, joined xs ys (p .1) q)
 
 -- "the proved table": every starred example holds.
-pub table : Each Says cases
+pub table : Each Shows cases
 table =
     let last = joined appointments limits appointments-right limits-right in
     let later = joined chains (appointments ++ limits) chains-right last in

@@ -1,5 +1,5 @@
 -- Tests of texts that compute: the text of a set, and a text of none; and what holds of the empty text on every block.
-use Prim.Native.Nat.{ℕ, _+_, _≤_}
+use Prim.Native.Nat.{ℕ, _+_, _<_, _≤_}
 use mathlib.Core.Path.{_≡_, refl, sym, ap, subst, _∙_}
 use mathlib.Core.Bool.{Bool, true, false, _&&_}
 use mathlib.Core.List.{List, [], _++_}
@@ -10,12 +10,13 @@ use lib.Dec.{ltb, leb}
 use lib.ListN.{length, drop}
 use Rattle.index.specs.declared.Kind.{Kind}
 use Rattle.index.specs.declared.Kind.the-variants.{Membership, Permission, Filter}
-use Rattle.index.specs.Block.{IsName, Sized, Good, records, room}
+use Rattle.index.specs.Letters.{letterCount}
+use Rattle.index.specs.Block.{IsName, Sized, Good, records, room, count}
 use Rattle.index.specs.Message.{IsKind, kindOf}
-use Rattle.index.specs.Text.{Entry, textOf, setOf, IsSet, Writes, Replaced}
+use Rattle.index.specs.Text.{Entry, textOf, setOf, IsSet, Writes, countIn, Replaced}
 use Rattle.index.specs.Calls.{blockNeeds, setNeeds, writeNeeds, readNeeds, Read, WritesSet, ReadsSet}
-use Rattle.index.specs.Reading.{Read as Reading, parse}
-use Rattle.index.specs.Reading.Read.{got, wrong}
+use Rattle.index.specs.Reading.{Parsed, parse}
+use Rattle.index.specs.Reading.Parsed.{got, wrong}
 use Rattle.index.proofs.Tests.{both}
 use Rattle.index.proofs.Firsts.{first-sure}
 use Rattle.index.proofs.IsSet.{is-set}
@@ -99,7 +100,7 @@ text-test b kind x t n e p q =
 
 -- ---- a text of no set
 
-abbrev isWrong : Reading (List Entry) → Bool
+abbrev isWrong : Parsed (List Entry) → Bool
 isWrong (got es t) = false
 isWrong (wrong t) = true
 
@@ -109,7 +110,7 @@ wrongTest t = isWrong (parse Membership t) && (isWrong (parse Permission t) && i
 is-wrong : (kind : Kind) (t : List ℕ) → isWrong (parse kind t) ≡ true → (es : List Entry) → Writes kind es t → ⊥
 is-wrong kind t = go (parse kind t) refl
   where
-    go : (r : Reading (List Entry)) → parse kind t ≡ r → isWrong r ≡ true → (es : List Entry) → Writes kind es t → ⊥
+    go : (r : Parsed (List Entry)) → parse kind t ≡ r → isWrong r ≡ true → (es : List Entry) → Writes kind es t → ⊥
     go (got fs s) p e = let z : _≡_ {A = ℕ} 0 1 = cc in absurd (omega arith)
     go (wrong s) p e = parse-wrong kind t p
 
@@ -135,11 +136,23 @@ none : (kind : Kind) → Writes kind [] []
 unfolding Writes textOf
 none kind = (IsSet.empty, refl)
 
-pub empty-text : Anywhere (λ b kind x. (o : ℕ × ℕ × List ℕ) → ReadsSet b kind x [] o → (o .0 ≡ 0) × (o .1 ≡ 0))
+no-other : (kind : Kind) (es : List Entry) → Writes kind es [] → es ≡ []
+no-other kind es w = writes-once kind [] es [] w (none kind)
+
+empty-read : Anywhere (λ b kind x. (o : ℕ × ℕ × List ℕ) → ReadsSet b kind x [] o → Read b kind x [] o)
 unfolding ReadsSet readNeeds setNeeds blockNeeds
+empty-read b kind x s g k n o r =
+    first-sure (λ n. (n, 0, b)) (Read b kind x []) o (readNeeds b kind x [])
+    (s, (g, (k, (n, (([], none (kindOf kind)), ((λ es w. omega (arith, fits g, ap length (no-other (kindOf kind) es w))), tt)))))) r
+
+pub empty-text : Anywhere (λ b kind x. (o : ℕ × ℕ × List ℕ) → ReadsSet b kind x [] o → (o .0 ≡ 0) × (o .1 ≡ 0))
 empty-text b kind x s g k n o r =
-    let length-none : (es : List Entry) → Writes (kindOf kind) es [] → length es ≡ 0 =
-    λ es w. ap length (writes-once (kindOf kind) [] es [] w (none (kindOf kind))) in
-    let a = first-sure (λ n. (n, 0, b)) (Read b kind x []) o (readNeeds b kind x [])
-    (s, (g, (k, (n, (([], none (kindOf kind)), ((λ es w. omega (arith, fits g, length-none es w)), tt)))))) r in
-    (a .2, a .3 ∙ length-none (a .0) (a .1))
+    let a = empty-read b kind x s g k n o r in (a .2, a .3 ∙ ap length (no-other (kindOf kind) (a .0) (a .1)))
+
+-- Read in, it leaves no count of the key.
+pub emptied : Anywhere (λ b kind x. (o : ℕ × ℕ × List ℕ) → ReadsSet b kind x [] o
+    → (y k : ℕ) → k < letterCount → count (o .2) (kindOf kind) x y k ≡ 0)
+unfolding countIn
+emptied b kind x s g k n o r y l h =
+    let a = empty-read b kind x s g k n o r in
+    a .4 .set y l h ∙ ap (λ (es : List Entry). countIn es y l) (no-other (kindOf kind) (a .0) (a .1))

@@ -47,15 +47,15 @@ block ms ps fs n =
 
 -- ---- messages
 
-abbrev pub half : ℕ → ℕ → ℕ → List ℕ
-half x y mask = two x ++ (two y ++ (mask ∷ []))
+abbrev pub halfBytes : ℕ → ℕ → ℕ → List ℕ
+halfBytes x y mask = two x ++ (two y ++ (mask ∷ []))
 
 -- A new statement, one withdrawn, and one that changes from the first half to the second. The kind: 1 M, 2 P, 3 F.
 abbrev pub giving : ℕ → ℕ → ℕ → ℕ → List ℕ
-giving kind x y mask = kind ∷ 2 ∷ (zeros 5 ++ half x y mask)
+giving kind x y mask = kind ∷ 2 ∷ (zeros 5 ++ halfBytes x y mask)
 
 abbrev pub withdrawing : ℕ → ℕ → ℕ → ℕ → List ℕ
-withdrawing kind x y mask = kind ∷ 1 ∷ (half x y mask ++ zeros 5)
+withdrawing kind x y mask = kind ∷ 1 ∷ (halfBytes x y mask ++ zeros 5)
 
 abbrev pub moving : ℕ → List ℕ → List ℕ → List ℕ
 moving kind before after = kind ∷ 3 ∷ (before ++ after)

@@ -1,7 +1,7 @@
 -- 01, "Numbers a caller can get": which calls give which numbers. A call gives a number when it does so for some input.
 use Prim.Native.Nat.{ℕ}
 use mathlib.Core.List.{List, [], _∷_}
-use Rattle.index.specs.Calls.{Makes, Message, WritesSet, ReadsSet}
+use Rattle.index.specs.Calls.{Makes, Message, CarriesOut, WritesSet, ReadsSet}
 use Rattle.rights.specs.Questions.{Full, Short}
 
 abbrev pub MakeGives : ℕ → Type 0
@@ -9,6 +9,10 @@ MakeGives n = (b : List ℕ) × (b′ : List ℕ) × Makes b (n, b′)
 
 abbrev pub MessageGives : ℕ → Type 0
 MessageGives n = (b : List ℕ) × (m : List ℕ) × (b′ : List ℕ) × Message b m (n, b′)
+
+-- carry_out, the door for a list of changes, which gives the numbers of a message.
+abbrev pub ListGives : ℕ → Type 0
+ListGives n = (b : List ℕ) × (cs : List ℕ) × (b′ : List ℕ) × CarriesOut b cs (n, b′)
 
 abbrev pub WriteGives : ℕ → Type 0
 WriteGives n =

@@ -7,7 +7,7 @@ use Rattle.index.specs.Block.{IsName, Sized, Good}
 use Rattle.index.specs.Message.{IsKind}
 use Rattle.index.specs.Calls.{Message, WritesSet, ReadsSet}
 use Rattle.rights.specs.Questions.{Full}
-use Rattle.tight.specs.Blocks.{once, block, zeros, half, giving, moving, nothing, reads, give, withdraw}
+use Rattle.tight.specs.Blocks.{once, block, zeros, halfBytes, giving, moving, nothing, reads, give, withdraw}
 
 pub data Case : Type 0 where
   -- on the block, the user holds these rights on the object
@@ -29,17 +29,17 @@ pub data Case : Type 0 where
 abbrev pub Anywhere : (List ℕ → ℕ → ℕ → Type 0) → Type 0
 Anywhere P = (b : List ℕ) (kind x : ℕ) → Sized b → Good b → IsKind kind → IsName x → P b kind x
 
-abbrev pub Says : Case → Type 0
-Says (Case.rights b u o mask) = Full b u o 15 (0, mask)
-Says (Case.everywhere b u mask) = (o : ℕ) → IsName o → Full b u o 15 (0, mask)
-Says (Case.text b kind x t n) =
+abbrev pub Shows : Case → Type 0
+Shows (Case.rights b u o mask) = Full b u o 15 (0, mask)
+Shows (Case.everywhere b u mask) = (o : ℕ) → IsName o → Full b u o 15 (0, mask)
+Shows (Case.text b kind x t n) =
     ((out : List ℕ) → length t ≤ length out → WritesSet b kind x out (0, length t, t ++ drop (length t) out))
     × ReadsSet b kind x t (0, n, b)
-Says (Case.wrong t) = Anywhere (λ b kind x. ReadsSet b kind x t (9, 0, b))
-Says Case.empty =
+Shows (Case.wrong t) = Anywhere (λ b kind x. ReadsSet b kind x t (9, 0, b))
+Shows Case.empty =
     Anywhere (λ b kind x. (o : ℕ × ℕ × List ℕ) → ReadsSet b kind x [] o → (o .0 ≡ 0) × (o .1 ≡ 0))
-Says (Case.accepted b m b′) = Message b m (0, b′)
-Says (Case.refused b m n) = Message b m (n, b)
+Shows (Case.accepted b m b′) = Message b m (0, b′)
+Shows (Case.refused b m n) = Message b m (n, b)
 
 -- The block with one P record, as one statement with this mask leaves it.
 abbrev pub granted : ℕ → List ℕ
@@ -48,6 +48,10 @@ granted mask = block [] (once 9 1 mask ∷ []) [] 0
 -- "id 3 with M, R, U once, id 12 with M, R once and U twice"
 abbrev pub twoRecords : List ℕ
 twoRecords = block [] (once 7 3 7 ∷ record { key = 7; id = 12; counts = 1 ∷ 1 ∷ 2 ∷ zeros 5 } ∷ []) [] 0
+
+-- `3;MRU;12;MRU2`
+abbrev pub twoText : List ℕ
+twoText = 51 ∷ 59 ∷ 77 ∷ 82 ∷ 85 ∷ 59 ∷ 49 ∷ 50 ∷ 59 ∷ 77 ∷ 82 ∷ 85 ∷ 50 ∷ []
 
 abbrev pub masks : List Case
 masks =
@@ -59,8 +63,7 @@ masks =
 
 abbrev pub texts : List Case
 texts =
-    -- `3;MRU;12;MRU2`
-    Case.text twoRecords 2 7 (51 ∷ 59 ∷ 77 ∷ 82 ∷ 85 ∷ 59 ∷ 49 ∷ 50 ∷ 59 ∷ 77 ∷ 82 ∷ 85 ∷ 50 ∷ []) 2
+    Case.text twoRecords 2 7 twoText 2
     -- "Texts `3;M1`, `03;M`, `3;RM`, `3;M;`, `3;M0`, `3;`: 9 each. Empty text: accepted, 0 records."
     ∷ Case.wrong (51 ∷ 59 ∷ 77 ∷ 49 ∷ [])
     ∷ Case.wrong (48 ∷ 51 ∷ 59 ∷ 77 ∷ [])
@@ -95,11 +98,11 @@ appointments =
 abbrev pub limits : List Case
 limits =
     -- "Count 65,535, message R to R: accepted. Another new R: 7."
-    Case.accepted (reads 65535) (moving 2 (half 9 1 2) (half 9 1 2)) (reads 65535)
+    Case.accepted (reads 65535) (moving 2 (halfBytes 9 1 2) (halfBytes 9 1 2)) (reads 65535)
     ∷ Case.refused (reads 65535) give 7
     -- "Block of 36 bytes (room 1) holding one record, a message moving its only statement to another key: accepted. A second
     -- record: 8."
-    ∷ Case.accepted (reads 1) (moving 2 (half 9 1 2) (half 10 1 2)) (block [] (once 10 1 2 ∷ []) [] 0)
+    ∷ Case.accepted (reads 1) (moving 2 (halfBytes 9 1 2) (halfBytes 10 1 2)) (block [] (once 10 1 2 ∷ []) [] 0)
     ∷ Case.refused (reads 1) (giving 2 10 1 2) 8 ∷ []
 
 -- All of them, in 01's order.

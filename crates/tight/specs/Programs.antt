@@ -1,25 +1,88 @@
--- A program for messages, and one for the full question: any function at all. It meets its promise when each of its answers
--- does.
-use Prim.Native.Nat.{ℕ}
+-- A program for the six calls: any functions at all. It meets the promises when each of its answers does.
+use Prim.Native.Nat.{ℕ, _<_}
+use mathlib.Core.Path.{_≡_}
 use mathlib.Core.List.{List, [], _∷_}
-use Rattle.index.specs.Calls.{Message}
-use Rattle.rights.specs.Questions.{Full}
+use Rattle.index.specs.declared.Kind.{Kind}
+use Rattle.index.specs.Letters.{letterCount}
+use Rattle.index.specs.Block.{records, count}
+use Rattle.index.specs.Message.{previous}
+use Rattle.index.specs.Calls.{Makes, Message, WritesSet, ReadsSet}
+use Rattle.index.specs.History.{Labelled, Statement, left, after, tally}
+use Rattle.index.specs.History.Sent.{plain}
+use Rattle.rights.specs.Questions.{Full, Short}
 
--- From a block and a message to the number, and the block then.
-abbrev pub Messages : Type 0
-Messages = List ℕ → List ℕ → ℕ × List ℕ
+-- Each call gives the number, the value, if it has one, and the lent bytes then, if it may change any.
+pub record Program : Type 0 where
+  pub make : (block : List ℕ) → ℕ × List ℕ
+  pub message : (block message : List ℕ) → ℕ × List ℕ
+  pub write : (block : List ℕ) (kind key : ℕ) (out : List ℕ) → ℕ × ℕ × List ℕ
+  pub read : (block : List ℕ) (kind key : ℕ) (text : List ℕ) → ℕ × ℕ × List ℕ
+  pub rights : (block : List ℕ) (user object request : ℕ) → ℕ × ℕ
+  pub may : (block : List ℕ) (user object request : ℕ) → ℕ × ℕ
 
-abbrev pub MeetsMessage : Messages → Type 0
-MeetsMessage f = (b m : List ℕ) → Message b m (f b m)
-
--- From a block, a user, an object and a request to the number, and the rights.
-abbrev pub Questions : Type 0
-Questions = List ℕ → ℕ → ℕ → ℕ → ℕ × ℕ
-
-abbrev pub MeetsFull : Questions → Type 0
-MeetsFull g = (b : List ℕ) (u o request : ℕ) → Full b u o request (g b u o request)
+pub record Meets (p : Program) : Type 0 where
+  pub make : (b : List ℕ) → Makes b (p .make b)
+  pub message : (b m : List ℕ) → Message b m (p .message b m)
+  pub write : (b : List ℕ) (kind x : ℕ) (out : List ℕ) → WritesSet b kind x out (p .write b kind x out)
+  pub read : (b : List ℕ) (kind x : ℕ) (text : List ℕ) → ReadsSet b kind x text (p .read b kind x text)
+  pub rights : (b : List ℕ) (u o request : ℕ) → Full b u o request (p .rights b u o request)
+  pub may : (b : List ℕ) (u o request : ℕ) → Short b u o request (p .may b u o request)
 
 -- The block after the program has had the messages, one after the other.
-abbrev pub run : Messages → List ℕ → List (List ℕ) → List ℕ
-run f b [] = b
-run f b (m ∷ ms) = run f (f b m .1) ms
+abbrev pub run : Program → List ℕ → List (List ℕ) → List ℕ
+run p b [] = b
+run p b (m ∷ ms) = run p (p .message b m .1) ms
+
+-- ---- "Five empty programs have to be turned away."
+
+-- "One that refuses everything": some call of it refuses every input.
+pub data RefusesEverything (p : Program) : Type 0 where
+  makes : ((b : List ℕ) → 0 < p .make b .0) → RefusesEverything p
+  messages : ((b m : List ℕ) → 0 < p .message b m .0) → RefusesEverything p
+  writes : ((b : List ℕ) (kind x : ℕ) (out : List ℕ) → 0 < p .write b kind x out .0) → RefusesEverything p
+  reads : ((b : List ℕ) (kind x : ℕ) (text : List ℕ) → 0 < p .read b kind x text .0) → RefusesEverything p
+  full : ((b : List ℕ) (u o request : ℕ) → 0 < p .rights b u o request .0) → RefusesEverything p
+  short : ((b : List ℕ) (u o request : ℕ) → 0 < p .may b u o request .0) → RefusesEverything p
+
+-- "One that grants the same mask always", or gives the same answer to each short question that it accepts.
+pub data AnswersTheSame (p : Program) : Type 0 where
+  full : (mask : ℕ) → ((b : List ℕ) (u o request : ℕ) → p .rights b u o request .0 ≡ 0 → p .rights b u o request .1 ≡ mask)
+      → AnswersTheSame p
+  short : (answer : ℕ) → ((b : List ℕ) (u o request : ℕ) → p .may b u o request .0 ≡ 0 → p .may b u o request .1 ≡ answer)
+      → AnswersTheSame p
+
+-- "One whose messages change nothing", or some other call that is to write lent bytes and never does.
+pub data ChangesNothing (p : Program) : Type 0 where
+  makes : ((b : List ℕ) → p .make b .1 ≡ b) → ChangesNothing p
+  messages : ((b m : List ℕ) → p .message b m .1 ≡ b) → ChangesNothing p
+  writes : ((b : List ℕ) (kind x : ℕ) (out : List ℕ) → p .write b kind x out .2 ≡ out) → ChangesNothing p
+  reads : ((b : List ℕ) (kind x : ℕ) (text : List ℕ) → p .read b kind x text .2 ≡ b) → ChangesNothing p
+
+-- "one that works at the first message and then only says accepted": a block with a record in it is past its first message.
+abbrev pub OnlyTheFirst : Program → Type 0
+OnlyTheFirst p = (b m : List ℕ) → 0 < records b → p .message b m ≡ (0, b)
+
+-- What the program does with a history. It is handed messages one after the other, each of which "quotes as its previous state
+-- just what the last accepted message of the same statement left".
+pub data Handed (p : Program) : List ℕ → List Statement → List Labelled → List ℕ → List Statement → Type 0 where
+  nothing : {b : List ℕ} {s : List Statement} → Handed p b s [] b s
+  accepted : {b b′ m : List ℕ} {l : ℕ} {s s′ : List Statement} {ms : List Labelled} → p .message b m .0 ≡ 0 → previous m ≡ left l s
+      → Handed p (p .message b m .1) (after (record { label = l; sent = plain m }) s) ms b′ s′
+      → Handed p b s (record { label = l; sent = plain m } ∷ ms) b′ s′
+  refused : {b b′ m : List ℕ} {l : ℕ} {s s′ : List Statement} {ms : List Labelled} → 0 < p .message b m .0
+      → Handed p (p .message b m .1) s ms b′ s′ → Handed p b s (record { label = l; sent = plain m } ∷ ms) b′ s′
+
+-- "One that stores made-up counts, say 1 for any": after some history, some count is not the number of statements standing.
+pub record MakesUpCounts (p : Program) : Type 0 where
+  pub lent : List ℕ
+  pub made : p .make lent .0 ≡ 0
+  pub messages : List Labelled
+  pub block : List ℕ
+  pub statements : List Statement
+  pub handed : Handed p (p .make lent .1) [] messages block statements
+  pub kind : Kind
+  pub key : ℕ
+  pub id : ℕ
+  pub letter : ℕ
+  pub is-letter : letter < letterCount
+  pub differs : count block kind key id letter ≡ tally statements kind key id letter → ⊥

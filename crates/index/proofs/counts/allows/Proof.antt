@@ -4,7 +4,7 @@ use native.Mathlib.Omega.{arith}
 use borrow.Author.Count.{below-none, below-more}
 use borrow.Author.Needs.{needs}
 use Rattle.index.specs.Letters.{letterCount}
-use Rattle.index.specs.Block.{countAt}
+use Rattle.index.specs.Block.{greatestCount, countAt}
 use Rattle.index.specs.Edits.{bit}
 use Rattle.index.proofs.counts.allows.Statement.{statement}
 use Rattle.index.proofs.counts.allows.Tie as tie
@@ -12,7 +12,7 @@ use Rattle.index.proofs.counts.allows.Tie as tie
 abbrev Inv-loop : tie.InvT-loop
 Inv-loop b i less more k₀ k =
     (k ≤ letterCount)
-    × ((n : ℕ) → n < k → (bit less n ≤ countAt b i n + bit more n) × (countAt b i n + bit more n ≤ 65535 + bit less n))
+    × ((n : ℕ) → n < k → (bit less n ≤ countAt b i n + bit more n) × (countAt b i n + bit more n ≤ greatestCount + bit less n))
 
 abbrev μ-loop : tie.MeasureT-loop
 μ-loop b i less more k₀ k = letterCount - k

@@ -3,7 +3,7 @@ use Prim.Native.Nat.{ℕ, _+_, _≤_, _-_}
 use native.Mathlib.Omega.{arith}
 use borrow.Author.Needs.{needs}
 use Rattle.index.specs.Letters.{letterCount}
-use Rattle.index.specs.Block.{countAt}
+use Rattle.index.specs.Block.{greatestCount, countAt}
 use Rattle.index.specs.Edits.{bit}
 use Rattle.index.proofs.Recount.{Partly, begun, stepped, finished}
 use Rattle.index.proofs.counts.recount.Statement.{statement}
@@ -24,7 +24,7 @@ module _ (c : tie.After-bit-of2 Inv-loop μ-loop) where
   k = c .before .before .before .before .before .before .loop .k
 
   allowed : (bit (c .before .before .before .before .before .before .before .before .args .less) k ≤ countAt (c .before .before .before .before .before .before .loop .b) (c .before .before .before .before .before .before .before .before .args .i) k + bit (c .before .before .before .before .before .before .before .before .args .more) k)
-      × (countAt (c .before .before .before .before .before .before .loop .b) (c .before .before .before .before .before .before .before .before .args .i) k + bit (c .before .before .before .before .before .before .before .before .args .more) k ≤ 65535 + bit (c .before .before .before .before .before .before .before .before .args .less) k)
+      × (countAt (c .before .before .before .before .before .before .loop .b) (c .before .before .before .before .before .before .before .before .args .i) k + bit (c .before .before .before .before .before .before .before .before .args .more) k ≤ greatestCount + bit (c .before .before .before .before .before .before .before .before .args .less) k)
   allowed = omega (arith, c .before .before .before .before .before .before .before .before .pre .1 k (search needs), c .before .before .before .before .before .before .loop .inv .1 .still k (omega arith) (search needs))
 
 sub-put-count : tie.Need-sub-put-count Inv-loop μ-loop

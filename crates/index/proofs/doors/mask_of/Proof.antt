@@ -8,12 +8,13 @@ use Rattle.index.proofs.Masks.{in-zero}
 use Rattle.index.proofs.Joining.{Joined, joined, skipped}
 use Rattle.index.proofs.doors.mask_of.Statement.{statement}
 use Rattle.index.proofs.doors.mask_of.Tie as tie
+use Rattle.index.specs.Letters.{letterCount}
 
 abbrev Inv-loop : tie.InvT-loop
-Inv-loop b i m₀ k₀ m k = (k ≤ 8) × Joined (countAt b i) k m
+Inv-loop b i m₀ k₀ m k = (k ≤ letterCount) × Joined (countAt b i) k m
 
 abbrev μ-loop : tie.MeasureT-loop
-μ-loop b i m₀ k₀ m k = 8 - k
+μ-loop b i m₀ k₀ m k = letterCount - k
 
 loop-holds : tie.Need-loop-holds Inv-loop μ-loop
 loop-holds c = (search needs, λ j. ((λ x. absurd (in-zero j x)), (λ x. absurd (omega arith))))
@@ -42,8 +43,8 @@ mask-of-spec =
     Inv-loop
     μ-loop
     loop-holds
-    (λ c. search needs)
     (λ c κs. search needs)
+    (λ c. search needs)
     (λ c κs. search needs)
     (λ c. search needs)
     (λ c. search needs)

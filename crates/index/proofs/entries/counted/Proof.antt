@@ -10,23 +10,23 @@ use Rattle.index.proofs.entries.counted.Tie as tie
 
 returns : tie.Need-returns
 returns c =
-    let a = c .before .before .args in sym (letter-end (now (a .text)) (a .c .at) (a .may - a .k) _ (c .if1 .taken))
+    let a = c .before .before .args in letter-end (now (a .text)) (a .c .at) (a .may - a .k) _ (c .if1 .taken)
 
 returns-2 : tie.Need-returns-2
 returns-2 c =
     let a = c .before .before .before .args in
-    sym (letter-shut (now (a .text)) (a .c .at) (a .may - a .k) _ (c .before .if1 .left) (omega (arith, c .if2 .taken)))
+    letter-shut (now (a .text)) (a .c .at) (a .may - a .k) _ (c .before .if1 .left) (omega (arith, c .if2 .taken))
 
 returns-3 : tie.Need-returns-3
 returns-3 c =
     let a = c .before .before .before .before .before .before .before .before .args in
-    c .count .ensures
-    ∙ sym (letter-there (now (a .text)) (a .c .at) (a .may - a .k) _ (c .before .before .before .before .before .before .if1 .left) (omega (arith, c .before .before .before .before .before .if2 .left)) (c .before .if3 .taken ∙ c .before .before .before .before .letter-at .ensures .1))
+    rw (letter-there (now (a .text)) (a .c .at) (a .may - a .k) _ (c .before .before .before .before .before .before .if1 .left) (omega (arith, c .before .before .before .before .before .if2 .left)) (c .before .if3 .taken ∙ c .before .before .before .before .letter-at .ensures .1))
+    (c .count .ensures)
 
 returns-4 : tie.Need-returns-4
 returns-4 c =
     let a = c .before .before .before .before .before .before .before .args in
-    sym (letter-none (now (a .text)) (a .c .at) (a .may - a .k) _ (c .before .before .before .before .before .if1 .left) (omega (arith, c .before .before .before .before .if2 .left)) (λ e. c .if3 .left (e ∙ sym (c .before .before .before .letter-at .ensures .1))))
+    letter-none (now (a .text)) (a .c .at) (a .may - a .k) _ (c .before .before .before .before .before .if1 .left) (omega (arith, c .before .before .before .before .if2 .left)) (λ e. c .if3 .left (e ∙ sym (c .before .before .before .letter-at .ensures .1)))
 
 pub counted-spec : {M : Type 1} → statement M
 counted-spec =

@@ -3,12 +3,12 @@ use Prim.Native.Nat.{ℕ, _≤_, _-_}
 use mathlib.Core.Path.{_≡_, sym, ap, _∙_}
 use denote.Ref.{now}
 use native.Mathlib.Omega.{arith}
-use Rattle.index.specs.Pieces.{seen, seenCounts}
 use lib.ListN.{length, drop, length-set}
 use mathlib.Core.List.{List}
 use Rattle.index.specs.Letters.{letterCount, letters}
 use Rattle.index.specs.Reading.{readCounts}
 use Rattle.index.proofs.ReadSteps.{after, after-none, after-wrong, after-more, after-all}
+use Rattle.index.proofs.HandedOn.{is-number, no-number}
 use borrow.Author.Needs.{needs}
 use Rattle.index.proofs.entries.counts.Statement.{statement}
 use Rattle.index.proofs.entries.counts.Tie as tie
@@ -34,12 +34,12 @@ loop-holds c =
 
 returns : tie.Need-returns Inv-loop μ-loop
 returns c =
-    let a = c .before .before .before .before .before .before .before .args in
-    let l = c .before .before .before .before .loop in (
+    let a = c .before .before .before .before .before .before .args in
+    let l = c .before .before .before .loop in
+    let w = no-number (now (a .text)) (c .before .counted .result) _ (c .match .keys2) (c .before .counted .ensures) in
+    let all = c .before .before .before .before .letters-of .ensures in (
       l .inv .1,
-      ap (λ p. seenCounts (now (a .text)) p (l .out)) (c .enum-told .given .1)
-          ∙ sym (l .inv .2 ∙ after-wrong (l .out) _ (l .k) (c .before .before .before .loop-test .taken) _ _ (sym (c .before .before .counted .ensures) ∙ ap (seen (now (a .text))) (c .enum-told .given .1)))
-          ∙ ap (λ (n : ℕ). readCounts n letters (drop (a .c .at) (now (a .text)))) (c .before .before .before .before .before .letters-of .ensures),
+      rw (w .1) (rw (← all) (l .inv .2 ∙ after-wrong (l .out) _ (l .k) (c .before .before .loop-test .taken) _ _ (w .2))),
     )
 
 loop-again : tie.Need-loop-again Inv-loop μ-loop
@@ -49,7 +49,7 @@ loop-again c =
       omega arith,
       simp length-set (l .inv .1),
       l .inv .2 ∙ after-more (l .out) _ (l .k) (c .before .before .before .before .loop-test .taken) _ _ _ (l .inv .1)
-          (sym (c .before .before .before .counted .ensures) ∙ ap (seen (now (a .text))) (c .before .piece .given .1)),
+          (is-number (now (a .text)) (c .before .piece .given .1) (c .before .before .before .counted .ensures)),
     )
 
 returns-2 : tie.Need-returns-2 Inv-loop μ-loop
@@ -57,8 +57,7 @@ returns-2 c =
     let a = c .before .before .before .before .args in
     let l = c .before .loop in (
       l .inv .1,
-      sym (l .inv .2 ∙ after-all (l .out) _ (l .k) _ (l .inv .1) (omega arith))
-          ∙ ap (λ (n : ℕ). readCounts n letters (drop (a .c .at) (now (a .text)))) (c .before .before .letters-of .ensures),
+      rw (← c .before .before .letters-of .ensures) (l .inv .2 ∙ after-all (l .out) _ (l .k) _ (l .inv .1) (omega arith)),
     )
 
 pub counts-spec : {M : Type 1} → statement M
@@ -70,7 +69,6 @@ counts-spec =
     (λ c κs. search needs)
     loop-holds
     (λ c κs. search needs)
-    (λ c. search needs)
     (λ c. search needs)
     returns
     (λ c. search needs)

@@ -7,10 +7,9 @@ use lib.Dec.{ltb}
 use lib.ListN.{drop}
 use denote.Ref.{now}
 use Rattle.index.specs.Text.{Entry}
-use Rattle.index.specs.Reading.{Read, total, readLetters, readAfterId, readRecord}
-use Rattle.index.specs.Reading.Read.{got, wrong}
-use Rattle.index.specs.Pieces.{seen, seenCounts, seenEntry}
-use Rattle.index.proofs.TakenApart.{then-of}
+use Rattle.index.specs.Reading.{Parsed, andThen, total, readLetters, readAfterId, readRecord}
+use Rattle.index.specs.Reading.Parsed.{got, wrong}
+use Rattle.index.proofs.HandedOn.{is-number, is-mark, are-letters, no-number, no-mark, no-letters, wrong-entry}
 use borrow.Author.Needs.{needs}
 use Rattle.index.proofs.entries.read_record.Statement.{statement}
 use Rattle.index.proofs.entries.read_record.Tie as tie
@@ -19,7 +18,7 @@ abbrev text : tie.Start → List ℕ
 text s = now (s .args .text)
 
 -- What is to be read.
-abbrev whole : tie.Start → Read Entry
+abbrev whole : tie.Start → Parsed Entry
 whole s = readRecord (s .args .kind) (s .args .least) (drop (s .args .c .at) (text s))
 
 -- The text is read up to the place.
@@ -32,17 +31,18 @@ name c = c .id .given .0 .0
 id-read : (c : tie.After-id) → whole (start c) ≡ readAfterId (start c .args .kind) (name c) (drop (c .id .given .0 .1 .0 .at) (text (start c)))
 unfolding readRecord
 id-read c =
-    then-of (readAfterId (start c .args .kind)) (c .before .before .number .ensures) (ap (seen (text (start c))) (c .id .given .1))
+    ap (λ x. andThen x (readAfterId (start c .args .kind)))
+    (is-number (text (start c)) (c .id .given .1) (c .before .before .number .ensures))
 
 abbrev after-id : tie.After-sign → tie.After-id
 after-id c = c .before .before .before .before
 
 mark-read : (c : tie.After-sign)
-    → whole (start (after-id c)) ≡ readLetters (start (after-id c) .args .kind) (name (after-id c)) (drop (c .sign .given .0 .1 .0 .at) (text (start (after-id c))))
+    → whole (start (after-id c)) ≡ readLetters (start (after-id c) .args .kind) (name (after-id c)) (drop (c .sign .given .0 .0 .at) (text (start (after-id c))))
 mark-read c =
     id-read (after-id c)
-    ∙ then-of (λ m r. readLetters (start (after-id c) .args .kind) (name (after-id c)) r) (c .before .before .mark .ensures)
-    (ap (seen (text (start (after-id c)))) (c .sign .given .1))
+    ∙ ap (λ x. andThen x (λ m r. readLetters (start (after-id c) .args .kind) (name (after-id c)) r))
+    (is-mark (text (start (after-id c))) (c .sign .given .1) (c .before .before .mark .ensures))
 
 abbrev after-sign : tie.After-pieces → tie.After-sign
 after-sign c = c .before .before .before .before .before
@@ -50,49 +50,49 @@ after-sign c = c .before .before .before .before .before
 abbrev counts : tie.After-pieces → List ℕ
 counts c = c .before .before .counts .last .1 .1 .1 .0
 
+-- What comes of the counts: a record, if one is above zero.
+abbrev entry : ℕ → List ℕ → List ℕ → Parsed Entry
+entry n cs r = cond (ltb 0 (total cs)) (got (record { id = n; counts = cs }) r) (wrong r)
+
 counts-read : (c : tie.After-pieces)
     → whole (start (after-id (after-sign c)))
-    ≡ cond (ltb 0 (total (counts c))) (got (record { id = name (after-id (after-sign c)); counts = counts c }) (drop (c .pieces .given .0 .1 .0 .at) (text (start (after-id (after-sign c))))))
-    (wrong (drop (c .pieces .given .0 .1 .0 .at) (text (start (after-id (after-sign c))))))
+    ≡ entry (name (after-id (after-sign c))) (counts c) (drop (c .pieces .given .0 .0 .at) (text (start (after-id (after-sign c)))))
 counts-read c =
     mark-read (after-sign c)
-    ∙ then-of (λ cs r. cond (ltb 0 (total cs)) (got (record { id = name (after-id (after-sign c)); counts = cs }) r) (wrong r)) (c .before .before .counts .ensures .1)
-    (ap (λ p. seenCounts (text (start (after-id (after-sign c)))) p (counts c)) (c .pieces .given .1))
+    ∙ ap (λ x. andThen x (entry (name (after-id (after-sign c)))))
+    (are-letters (text (start (after-id (after-sign c)))) (c .pieces .given .1) (c .before .before .counts .ensures .1))
 
 returns : tie.Need-returns
 unfolding readRecord
 returns c =
-    let s = c .before .before .before .before in (
-      s .pre .0,
-      ap (λ p. seenEntry (text s) p (now (s .args .out))) (c .enum-told .given .1)
-          ∙ sym (then-of (readAfterId (s .args .kind)) (c .before .before .number .ensures) (ap (seen (text s)) (c .enum-told .given .1))),
-    )
+    let s = c .before .before .before in
+    let n = c .before .number in
+    (s .pre .0, wrong-entry (text s) (now (s .args .out)) (n .result) _ (no-number (text s) (n .result) _ (c .match .keys2) (n .ensures)))
 
 returns-2 : tie.Need-returns-2
 returns-2 c =
-    let s = c .before .before .before .before .before .before .before .before in (
+    let s = c .before .before .before .before .before .before .before in
+    let m = c .before .mark in (
       s .pre .0,
-      ap (λ p. seenEntry (text s) p (now (s .args .out))) (c .enum-told2 .given .1)
-          ∙ sym (id-read (c .before .before .before .before)
-          ∙ then-of (λ m r. readLetters (s .args .kind) (c .before .before .before .before .id .given .0 .0) r) (c .before .before .mark .ensures) (ap (seen (text s)) (c .enum-told2 .given .1))),
+      rw (id-read (c .before .before .before))
+          (wrong-entry (text s) (now (s .args .out)) (m .result) _ (no-mark (text s) (m .result) _ (c .match2 .keys2) (m .ensures))),
     )
 
 returns-3 : tie.Need-returns-3
 returns-3 c =
-    let s = c .before .before .before .before .before .before .before .before .before .before .before .before .before in
-    let o : List ℕ = c .before .before .counts .last .1 .1 .1 .0 in (
-      c .before .before .counts .ensures .0,
-      ap (λ p. seenEntry (text s) p o) (c .enum-told3 .given .1)
-          ∙ sym (mark-read (c .before .before .before .before .before)
-          ∙ then-of (λ cs r. cond (ltb 0 (total cs)) (got (record { id = c .before .before .before .before .before .before .before .before .before .id .given .0 .0; counts = cs }) r) (wrong r)) (c .before .before .counts .ensures .1)
-          (ap (λ p. seenCounts (text s) p o) (c .enum-told3 .given .1))),
+    let s = c .before .before .before .before .before .before .before .before .before .before .before .before in
+    let k = c .before .counts in
+    let o : List ℕ = k .last .1 .1 .1 .0 in (
+      k .ensures .0,
+      rw (mark-read (c .before .before .before .before))
+          (wrong-entry (text s) o (k .result) _ (no-letters (text s) o (k .result) _ (c .match3 .keys2) (k .ensures .1))),
     )
 
 returns-4 : tie.Need-returns-4
-returns-4 c = (c .before .before .before .before .before .before .counts .ensures .0, sym (counts-read (c .before .before .before .before) ∙ simp (sym (c .before .is-counted .ensures) ∙ c .if1 .taken)))
+returns-4 c = (c .before .before .before .before .before .before .counts .ensures .0, counts-read (c .before .before .before .before) ∙ simp (sym (c .before .is-counted .ensures) ∙ c .if1 .taken))
 
 returns-5 : tie.Need-returns-5
-returns-5 c = (c .before .before .before .before .before .before .counts .ensures .0, sym (counts-read (c .before .before .before .before) ∙ simp (sym (c .before .is-counted .ensures) ∙ c .if1 .left)))
+returns-5 c = (c .before .before .before .before .before .before .counts .ensures .0, counts-read (c .before .before .before .before) ∙ simp (sym (c .before .is-counted .ensures) ∙ c .if1 .left))
 
 pub read-record-spec : {M : Type 1} → statement M
 read-record-spec =
@@ -100,14 +100,11 @@ read-record-spec =
     (tie.spec
     (λ c κs. search needs)
     (λ c. search needs)
-    (λ c. search needs)
     returns
     (λ c κs. search needs)
     (λ c. search needs)
-    (λ c. search needs)
     returns-2
     (λ c κs. search needs)
-    (λ c. search needs)
     (λ c. search needs)
     returns-3
     (λ c κs. search needs)

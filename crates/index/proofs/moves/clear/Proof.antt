@@ -3,13 +3,13 @@ use Prim.Native.Nat.{_≤_, _-_}
 use mathlib.Core.Path.{_≡_, refl}
 use native.Mathlib.Omega.{arith}
 use borrow.Author.Needs.{needs}
-use Rattle.index.specs.Edits.{Filled}
+use Rattle.index.specs.Edits.{Overwritten}
 use Rattle.index.proofs.Filling.{filled-none, filled-up}
 use Rattle.index.proofs.moves.clear.Statement.{statement}
 use Rattle.index.proofs.moves.clear.Tie as tie
 
 abbrev Inv-loop : tie.InvT-loop
-Inv-loop b₀ lo hi t₀ b t = (lo ≤ t) × (t ≤ hi) × Filled lo t (λ u. 0) b₀ b
+Inv-loop b₀ lo hi t₀ b t = (lo ≤ t) × (t ≤ hi) × Overwritten lo t (λ u. 0) b₀ b
 
 abbrev μ-loop : tie.MeasureT-loop
 μ-loop b₀ lo hi t₀ b t = hi - t

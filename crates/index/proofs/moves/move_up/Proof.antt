@@ -4,13 +4,13 @@ use mathlib.Core.Path.{_≡_}
 use native.Mathlib.Omega.{arith}
 use borrow.Author.Needs.{needs}
 use lib.ListN.{getD}
-use Rattle.index.specs.Edits.{Filled}
+use Rattle.index.specs.Edits.{Overwritten}
 use Rattle.index.proofs.Filling.{filled-none, filled-down}
 use Rattle.index.proofs.moves.move_up.Statement.{statement}
 use Rattle.index.proofs.moves.move_up.Tie as tie
 
 abbrev Inv-loop : tie.InvT-loop
-Inv-loop b₀ lo hi d t₀ b t = (lo ≤ t) × (t ≤ hi) × Filled t hi (λ u. getD b₀ (u - d) 0) b₀ b
+Inv-loop b₀ lo hi d t₀ b t = (lo ≤ t) × (t ≤ hi) × Overwritten t hi (λ u. getD b₀ (u - d) 0) b₀ b
 
 abbrev μ-loop : tie.MeasureT-loop
 μ-loop b₀ lo hi d t₀ b t = t

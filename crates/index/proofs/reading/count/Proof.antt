@@ -8,17 +8,17 @@ use Rattle.index.proofs.reading.count.Tie as tie
 
 returns : tie.Need-returns
 returns c =
-    let a = c .before .before .args in sym (count-end (now (a .text)) (a .c .at) (c .if1 .taken))
+    let a = c .before .before .args in count-end (now (a .text)) (a .c .at) (c .if1 .taken)
 
 returns-2 : tie.Need-returns-2
 returns-2 c =
     let a = c .before .before .before .before .before .before .args in
-    c .number .ensures ∙ sym (count-number (now (a .text)) (a .c .at) (c .before .before .before .before .if1 .left) (sym (c .before .before .is-digit .ensures) ∙ c .before .if2 .taken))
+    rw (count-number (now (a .text)) (a .c .at) (c .before .before .before .before .if1 .left) (sym (c .before .before .is-digit .ensures) ∙ c .before .if2 .taken)) (c .number .ensures)
 
 returns-3 : tie.Need-returns-3
 returns-3 c =
     let a = c .before .before .before .before .before .args in
-    sym (count-none (now (a .text)) (a .c .at) (c .before .before .before .if1 .left) (sym (c .before .is-digit .ensures) ∙ c .if2 .left))
+    count-none (now (a .text)) (a .c .at) (c .before .before .before .if1 .left) (sym (c .before .is-digit .ensures) ∙ c .if2 .left)
 
 pub count-spec : {M : Type 1} → statement M
 count-spec =

@@ -27,9 +27,10 @@ returns : tie.Need-returns Inv-loop μ-loop
 returns c =
     let a = c .before .before .before .before .before .before .before .args in
     let l = c .before .before .before .before .before .loop in
-    c .ended .ensures (now (a .text))
-    ∙ sym (digits-other (now (a .text)) (l .at) (a .least) (a .most) (l .sum) (c .before .before .before .before .loop-test .taken) (sym (c .before .before .is-digit .ensures) ∙ not-true _ (c .before .if1 .taken)))
-    ∙ l .inv .1
+    rw
+    (sym (l .inv .1)
+    ∙ digits-other (now (a .text)) (l .at) (a .least) (a .most) (l .sum) (c .before .before .before .before .loop-test .taken) (sym (c .before .before .is-digit .ensures) ∙ not-true _ (c .before .if1 .taken)))
+    (c .ended .ensures (now (a .text)))
 
 cast-more : tie.Need-cast-more Inv-loop μ-loop
 cast-more c = omega (arith, c .before .before .shared-slice-known2 .given (c .before .before .before .before .loop .at))
@@ -47,8 +48,9 @@ returns-2 : tie.Need-returns-2 Inv-loop μ-loop
 returns-2 c =
     let a = c .before .before .before .before .before .before .before .before .args in
     let l = c .before .before .before .before .before .before .loop in
-    sym (digits-wrong (now (a .text)) (l .at) (a .least) (a .most) (l .sum) (c .before .before .before .before .before .loop-test .taken) (sym (c .before .before .before .is-digit .ensures) ∙ not-false _ (c .before .before .if1 .left))
-    (sym (c .before .reaches .ensures) ∙ not-true _ (c .if2 .taken))) ∙ l .inv .1
+    sym (l .inv .1)
+    ∙ digits-wrong (now (a .text)) (l .at) (a .least) (a .most) (l .sum) (c .before .before .before .before .before .loop-test .taken) (sym (c .before .before .before .is-digit .ensures) ∙ not-false _ (c .before .before .if1 .left))
+    (sym (c .before .reaches .ensures) ∙ not-true _ (c .if2 .taken))
 
 loop-again : tie.Need-loop-again Inv-loop μ-loop
 loop-again c =
@@ -64,8 +66,8 @@ returns-3 : tie.Need-returns-3 Inv-loop μ-loop
 returns-3 c =
     let a = c .before .before .before .before .args in
     let l = c .before .before .loop in
-    c .ended2 .ensures (now (a .text))
-    ∙ sym (digits-end (now (a .text)) (l .at) (a .least) (a .most) (l .sum) (c .before .loop-test .left)) ∙ l .inv .1
+    rw (sym (l .inv .1) ∙ digits-end (now (a .text)) (l .at) (a .least) (a .most) (l .sum) (c .before .loop-test .left))
+    (c .ended2 .ensures (now (a .text)))
 
 pub digits-spec : {M : Type 1} → statement M
 digits-spec =

@@ -1,5 +1,4 @@
 -- `index::reading::mark` meets its contract: a step of `readMark` for each way.
-use mathlib.Core.Path.{sym}
 use denote.Ref.{now}
 use Rattle.index.proofs.ReadSteps.{mark-end, mark-there, mark-none}
 use borrow.Author.Needs.{needs}
@@ -9,17 +8,17 @@ use Rattle.index.proofs.reading.mark.Tie as tie
 returns : tie.Need-returns
 returns c =
     let a = c .before .args in
-    sym (mark-end (now (a .text)) (a .c .at) (c .if1 .taken))
+    mark-end (now (a .text)) (a .c .at) (c .if1 .taken)
 
 returns-2 : tie.Need-returns-2
 returns-2 c =
     let a = c .before .before .before .args in
-    sym (mark-there (now (a .text)) (a .c .at) (c .before .before .if1 .left) (c .if2 .taken))
+    mark-there (now (a .text)) (a .c .at) (c .before .before .if1 .left) (c .if2 .taken)
 
 returns-3 : tie.Need-returns-3
 returns-3 c =
     let a = c .before .before .before .args in
-    sym (mark-none (now (a .text)) (a .c .at) (c .before .before .if1 .left) (c .if2 .left))
+    mark-none (now (a .text)) (a .c .at) (c .before .before .if1 .left) (c .if2 .left)
 
 pub mark-spec : {M : Type 1} → statement M
 mark-spec = tie.close (tie.spec returns (λ c. search needs) (λ c. search needs) returns-2 returns-3)

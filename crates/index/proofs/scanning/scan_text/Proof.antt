@@ -1,17 +1,22 @@
 -- `index::scanning::scan_text` meets its contract. The loop: proofs/Scans, `Turn`.
 use Prim.Native.Nat.{ℕ, _+_, _<_, _-_}
-use mathlib.Core.Path.{_≡_, refl, sym, ap, _∙_, subst}
+use mathlib.Core.Path.{_≡_, refl, sym, subst}
 use mathlib.Core.List.{List}
 use lib.ListN.{length, drop}
 use denote.Ref.{now}
 use native.Mathlib.Omega.{arith}
 use Rattle.index.specs.Letters.{letterCount}
-use Rattle.index.specs.Text.{Entry}
+use Rattle.index.specs.Text.{Entry, Writes}
+use Rattle.index.specs.declared.Kind.{Kind}
+use Rattle.index.specs.declared.reading.Cursor.{Cursor}
+use Rattle.index.specs.declared.reading.Piece.{Piece}
+use Rattle.index.specs.declared.reading.Piece.the-variants.{Wrong}
 use Rattle.index.specs.declared.scanning.Scan.{Scan}
 use Rattle.index.specs.Reading.{readRecord}
-use Rattle.index.specs.Reading.Read.{got}
-use Rattle.index.specs.Pieces.{seen, seenEntry, Scanned}
+use Rattle.index.specs.Reading.Parsed.{got}
+use Rattle.index.specs.Pieces.{Placed, Scanned}
 use Rattle.index.proofs.Scans.{Turn, no-text, turn-first, turn-wrong, shorter, turn-last, turn-no-mark, turn-full, turn-next}
+use Rattle.index.proofs.HandedOn.{is-mark, is-entry, is-placed, no-mark, no-entry}
 use borrow.Author.Needs.{needs}
 use Rattle.index.proofs.scanning.scan_text.Statement.{statement}
 use Rattle.index.proofs.scanning.scan_text.Tie as tie
@@ -21,6 +26,12 @@ Inv-loop text kind out₀ here₀ least₀ n₀ out here least n = (length out �
 
 abbrev μ-loop : tie.MeasureT-loop
 μ-loop text kind out₀ here₀ least₀ n₀ out here least n = length text - here .at
+
+-- A wrong piece, and no set that is written so.
+refused-so : (kind : Kind) (text : List ℕ) (p : Piece) (c : Cursor) (r : Scan) → p ≡ Wrong c → Placed text p r
+    → ((es : List Entry) → Writes kind es text → ⊥) → Scanned kind text r
+refused-so kind text p c r e h none =
+    subst (λ (x : Scan). Scanned kind text x) (sym (is-placed text e h)) none
 
 -- ---- a record was read
 
@@ -42,7 +53,7 @@ next-at c = c .entry .given .0 .1 .0 .at
 was-read : (c : tie.After-entry Inv-loop μ-loop)
     → readRecord (start c .args .kind) (at-loop c .loop .least) (drop (at-loop c .loop .here .at) (text c)) ≡ got (entry c) (drop (next-at c) (text c))
 was-read c =
-    sym (c .before .before .read-record .ensures .1) ∙ ap (λ p. seenEntry (text c) p (entry c .counts)) (c .entry .given .1)
+    is-entry (text c) (c .entry .given .1) (c .before .before .read-record .ensures .1)
 
 -- ---- and a `;` after it
 
@@ -50,13 +61,13 @@ abbrev before : tie.After-sign Inv-loop μ-loop → tie.After-entry Inv-loop μ-
 before c = c .before .before .before .before .before .before
 
 next-turn : (c : tie.After-sign Inv-loop μ-loop)
-    → Turn (text (before c)) (start (before c) .args .kind) (c .sign .given .0 .1 .0 .at) (entry (before c) .id + 1) (at-loop (before c) .loop .n + 1)
-    × (length (text (before c)) - c .sign .given .0 .1 .0 .at < length (text (before c)) - at-loop (before c) .loop .here .at)
+    → Turn (text (before c)) (start (before c) .args .kind) (c .sign .given .0 .0 .at) (entry (before c) .id + 1) (at-loop (before c) .loop .n + 1)
+    × (length (text (before c)) - c .sign .given .0 .0 .at < length (text (before c)) - at-loop (before c) .loop .here .at)
 next-turn c =
     let k = before c in
     let l = at-loop k .loop in
-    turn-next (text k) (start k .args .kind) (l .here .at) (l .least) (l .n) (l .inv .1) (entry k) (next-at k) (was-read k) _ (c .sign .given .0 .1 .0 .at) (c .before .before .before .if3 .left)
-    (sym (c .before .before .mark .ensures) ∙ ap (seen (text k)) (c .sign .given .1))
+    turn-next (text k) (start k .args .kind) (l .here .at) (l .least) (l .n) (l .inv .1) (entry k) (next-at k) (was-read k) _ (c .sign .given .0 .0 .at) (c .before .before .before .if3 .left)
+    (is-mark (text k) (c .sign .given .1) (c .before .before .mark .ensures))
 
 -- ---- the needs
 
@@ -72,12 +83,12 @@ read-record-requires c κs = (c .before .loop .inv .0, c .before .loop .inv .1 .
 
 returns-2 : tie.Need-returns-2 Inv-loop μ-loop
 returns-2 c =
-    let a = c .before .before .before .before .before .before .before .before .args in
-    let l = c .before .before .before .before .before .loop in
+    let a = c .before .before .before .before .before .before .before .args in
+    let l = c .before .before .before .before .loop in
     let t : List ℕ = now (a .text) in
-    subst (λ (x : Scan). Scanned (a .kind) t x) (sym (c .refused .ensures _ (ap (seen t) (c .before .enum-told .given .1))))
-    (turn-wrong t (a .kind) (l .here .at) (l .least) (l .n) (l .inv .1) _
-    (sym (c .before .before .before .read-record .ensures .1) ∙ ap (λ p. seenEntry t p (c .before .before .before .read-record .last .1 .1 .1 .1 .0)) (c .before .enum-told .given .1)))
+    let r = c .before .before .read-record in
+    let w = no-entry t _ (r .result) _ (c .before .match .keys2) (r .ensures .1) in
+    refused-so (a .kind) t _ _ _ (w .1) (c .refused .ensures) (turn-wrong t (a .kind) (l .here .at) (l .least) (l .n) (l .inv .1) _ (w .2))
 
 add-n : tie.Need-add-n Inv-loop μ-loop
 add-n c =
@@ -103,11 +114,12 @@ returns-4 c =
 
 returns-5 : tie.Need-returns-5 Inv-loop μ-loop
 returns-5 c =
-    let k = c .before .before .before .before .before .before .before in
-    let l = c .before .before .before .before .before .before .before .before .before .before .before .loop in
-    subst (λ (x : Scan). Scanned (start k .args .kind) (text k) x) (sym (c .refused2 .ensures _ (ap (seen (text k)) (c .before .enum-told2 .given .1))))
-    (turn-no-mark (text k) (start k .args .kind) (l .here .at) (l .least) (l .n) (l .inv .1) (entry k) (next-at k) (was-read k) _ (c .before .before .before .before .before .if2 .left)
-    (sym (c .before .before .before .mark .ensures) ∙ ap (seen (text k)) (c .before .enum-told2 .given .1)))
+    let k = c .before .before .before .before .before .before in
+    let l = at-loop k .loop in
+    let m = c .before .before .mark in
+    let w = no-mark (text k) (m .result) _ (c .before .match2 .keys2) (m .ensures) in
+    refused-so (start k .args .kind) (text k) _ _ _ (w .1) (c .refused2 .ensures)
+    (turn-no-mark (text k) (start k .args .kind) (l .here .at) (l .least) (l .n) (l .inv .1) (entry k) (next-at k) (was-read k) _ (c .before .before .before .before .if2 .left) (w .2))
 
 add-least : tie.Need-add-least Inv-loop μ-loop
 add-least c = omega (arith, next-turn (c .before) .0 .small)
@@ -128,14 +140,12 @@ scan-text-spec =
     loop-holds
     read-record-requires
     (λ c. search needs)
-    (λ c. search needs)
     (λ c κs. search needs)
     returns-2
     add-n
     returns-3
     returns-4
     (λ c κs. search needs)
-    (λ c. search needs)
     (λ c. search needs)
     (λ c κs. search needs)
     returns-5

@@ -10,7 +10,7 @@ use borrow.Author.Tests.{leb-true, leb-false, not-true, not-false}
 use Rattle.index.specs.declared.Kind.{Kind}
 use Rattle.index.specs.declared.scanning.Scan.{Scan}
 use Rattle.index.specs.declared.scanning.Scan.the-variants.{Records}
-use Rattle.index.specs.Block.{greatestLength, place, records, room, Sized}
+use Rattle.index.specs.Block.{nameCount, greatestLength, place, records, room, Sized}
 use Rattle.index.specs.Text.{setOf, Writes}
 use Rattle.index.specs.Calls.{setNeeds}
 use Rattle.index.specs.Pieces.{Scanned}
@@ -50,7 +50,7 @@ kind c = c .before .before .before .kind-of .result
 scanned : (c : tie.After-n) → Scanned (kind c) (text (passed c)) (Records (c .n .given .0 .0))
 scanned c = subst (λ (r : Scan). Scanned (kind c) (text (passed c)) r) (c .n .given .1) (c .before .before .scan-text .ensures)
 
-few : (c : tie.After-n) → c .n .given .0 .0 ≤ 1024
+few : (c : tie.After-n) → c .n .given .0 .0 ≤ nameCount
 unfolding Writes
 few c = let (es, w, e) = scanned c in omega (arith, set-few (w .0))
 

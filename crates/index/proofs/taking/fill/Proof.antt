@@ -1,15 +1,13 @@
 -- `index::taking::fill` meets its contract. The loop: proofs/Entering, `Taking`.
 use Prim.Native.Nat.{ℕ, _-_, _≤_, _<_}
-use mathlib.Core.Path.{_≡_, refl, ap, _∙_}
+use mathlib.Core.Path.{_≡_, refl, _∙_}
 use mathlib.Core.List.{List}
-use lib.ListN.{length, drop}
+use lib.ListN.{length}
 use denote.Ref.{now}
 use native.Mathlib.Omega.{arith}
 use borrow.Author.Needs.{needs}
 use Rattle.index.specs.Letters.{letterCount}
 use Rattle.index.specs.Text.{Entry, IsEntry, Writes}
-use Rattle.index.specs.Reading.Read.{got}
-use Rattle.index.specs.Pieces.{seenEntry}
 use Rattle.index.proofs.TextOnce.{scanned-length}
 use Rattle.index.proofs.Entering.{Taking, taking-first, taking-last, never-wrong, taken-entry, taking-next}
 use Rattle.index.proofs.taking.fill.Statement.{statement}
@@ -38,31 +36,21 @@ one-left c es w =
 abbrev in-loop : tie.After-name Inv-loop μ-loop → tie.In-loop Inv-loop μ-loop
 in-loop c = c .before .before .before .before
 
-abbrev entry : tie.After-name Inv-loop μ-loop → Entry
-entry c = record { id = c .name .given .0 .0; counts = c .before .before .take-record .last .1 .1 .1 .1 .0 }
-
-abbrev next-at : tie.After-name Inv-loop μ-loop → ℕ
-next-at c = c .name .given .0 .1 .0 .at
-
-is-answer : (c : tie.After-name Inv-loop μ-loop)
-    → seenEntry (now (start (in-loop c) .args .text)) (c .before .before .take-record .result) (entry c .counts)
-    ≡ got (entry c) (drop (next-at c) (now (start (in-loop c) .args .text)))
-is-answer c = ap (λ p. seenEntry (now (start (in-loop c) .args .text)) p (entry c .counts)) (c .name .given .1)
-
-is-entry : (c : tie.After-name Inv-loop μ-loop) → IsEntry (start (in-loop c) .args .kind) (entry c)
+is-entry : (c : tie.After-name Inv-loop μ-loop)
+    → IsEntry (start (in-loop c) .args .kind) (record { id = c .name .given .0 .0; counts = c .before .before .take-record .last .1 .1 .1 .1 .0 })
 is-entry c =
     let (es, w, _) = start (in-loop c) .pre .1 in
-    taken-entry (in-loop c .before .loop .inv .3 es w) (one-left (in-loop c) es w) (c .before .before .take-record .ensures .1) (next-at c) (is-answer c)
+    let r = c .before .before .take-record in
+    taken-entry (in-loop c .before .loop .inv .3 es w) (one-left (in-loop c) es w) (r .result) _ (r .ensures .1) (c .name .given .1)
 
 loop-holds : tie.Need-loop-holds Inv-loop μ-loop
 loop-holds c = (omega arith, refl, refl, λ es w. taking-first w)
 
 returns : tie.Need-returns Inv-loop μ-loop
 returns c es w =
-    let o : List ℕ = c .before .before .take-record .last .1 .1 .1 .1 .0 in
+    let r = c .before .take-record in
     absurd
-    (never-wrong (c .before .before .before .before .before .loop .inv .3 es w) (one-left (c .before .before .before .before) es w) (c .before .before .take-record .ensures .1)
-    (ap (λ p. seenEntry (now (c .before .before .before .before .before .before .before .before .args .text)) p o) (c .enum-told .given .1)))
+    (never-wrong (c .before .before .before .before .loop .inv .3 es w) (one-left (c .before .before .before) es w) (r .result) _ (r .ensures .1) (c .match .keys2))
 
 put-entry-requires : tie.Need-put-entry-requires Inv-loop μ-loop
 put-entry-requires c κs =
@@ -78,7 +66,8 @@ loop-again c =
       c .before .before .before .before .before .before .before .before .take-record .ensures .0,
       c .before .before .put-entry .kept .0 ∙ c .before .before .before .before .before .before .before .before .before .before .before .loop .inv .2,
       λ es w.
-          taking-next (c .before .before .before .before .before .before .before .before .before .before .before .loop .inv .3 es w) (one-left (in-loop k) es w) (c .before .before .before .before .before .before .before .before .take-record .ensures .1) (next-at k) (is-answer k) (c .before .before .put-entry .ensures),
+          let r = k .before .before .take-record in
+          taking-next (in-loop k .before .loop .inv .3 es w) (one-left (in-loop k) es w) (r .result) _ (r .ensures .1) (k .name .given .1) (c .before .before .put-entry .ensures),
     )
 
 returns-2 : tie.Need-returns-2 Inv-loop μ-loop
@@ -93,8 +82,7 @@ fill-spec =
     loop-holds
     (λ c κs. c .before .before .loop .inv .1)
     (λ c. search needs)
-    (λ c. search needs)
-    (λ c. c .before .before .before .before .before .loop .inv .2)
+    (λ c. c .before .before .before .before .loop .inv .2)
     returns
     (λ c. omega (arith, c .before .before .before .before .before .before .loop-test .taken, c .before .before .before .before .before .before .before .before .before .before .pre .0 .1))
     put-entry-requires
