@@ -1,3 +1,4 @@
 -- The laws that belong to no one function.
 mod Fits
+mod Numbered
 pub mod OneReturn

@@ -1,14 +1,19 @@
 -- No second number and no second bytes satisfy the promise of the same call.
 use Prim.Native.Nat.{ℕ, _/_, _%_}
 use mathlib.Core.Path.{_≡_, sym, ap, _∙_}
-use mathlib.Core.List.{List}
+use mathlib.Core.List.{List, [], _∷_}
 use native.Mathlib.Omega.{arith}
-use Rattle.index.specs.Calls.{Makes, Message, WritesSet, ReadsSet}
+use Rattle.index.specs.Numbers.{Answers}
+use Rattle.index.specs.Block.{size}
+use Rattle.index.specs.Message.{IsKind, kindOf}
+use Rattle.index.specs.Calls.{blockNeeds, Makes, Message, WritesSet, ReadsSet}
 use Rattle.index.proofs.OneCall.{one-make, one-write, one-read}
+use Rattle.index.proofs.OneDoor.{one-tested}
+use Rattle.index.proofs.OneFirst.{one-first}
 use Rattle.index.proofs.OneMessage.{one-message}
 use Rattle.rights.specs.Questions.{Full, Short}
 use Rattle.rights.proofs.OneAnswer.{one-full, one-short}
-use Rattle.anaqsiro.specs.Returned.{Packed, Returned, MakeReturns, MessageReturns, RightsReturns, MayReturns, WriteReturns, ReadReturns}
+use Rattle.anaqsiro.specs.Returned.{Packed, Returned, MakeReturns, MessageReturns, RightsReturns, MayReturns, WriteReturns, ReadReturns, TestedReturns, SizeReturns, RecordReturns, CountReturns}
 
 -- The number is the upper half of what is returned, and the value the lower.
 pub halves : {n v r : ℕ} → Packed n v r → (n ≡ r / 4294967296) × (v ≡ r % 4294967296)
@@ -73,3 +78,32 @@ module _ (b : List ℕ) (u o request : ℕ) where
   pub one-may-return : (r r₂ : ℕ) → MayReturns b u o request r → MayReturns b u o request r₂ → r ≡ r₂
   unfolding MayReturns
   one-may-return = one-answer (Short b u o request) (one-short b u o request)
+
+-- ---- the block as it stands
+
+pub one-tested-return : (b : List ℕ) (r r₂ : ℕ) → TestedReturns b r → TestedReturns b r₂ → r ≡ r₂
+unfolding TestedReturns
+one-tested-return b =
+    one-answer (λ a. (a .1 ≡ 0) × Answers (blockNeeds b) (a .0))
+    (λ a c p q. let n = one-tested b (a .0) (c .0) (p .1) (q .1) in let v = p .0 ∙ sym (q .0) in λ i. (n i, v i))
+
+pub one-size-return : (b : List ℕ) (kind r r₂ : ℕ) → SizeReturns b kind r → SizeReturns b kind r₂ → r ≡ r₂
+unfolding SizeReturns
+one-size-return b kind =
+    one-answer _
+    (one-first {O = ℕ × ℕ} (λ n. (n, 0)) ((3, IsKind kind) ∷ []) (λ o. o ≡ (0, size b (kindOf kind))) (λ a c p q. p ∙ sym q))
+
+-- A number is one number.
+module _ (w : ℕ) where
+  one-numbered : (r r₂ : ℕ) → Returned (λ n v. (n ≡ 0) × (v ≡ w)) r → Returned (λ n v. (n ≡ 0) × (v ≡ w)) r₂ → r ≡ r₂
+  one-numbered =
+      one-answer (λ a. (a .0 ≡ 0) × (a .1 ≡ w))
+      (λ a c p q. let n = p .0 ∙ sym (q .0) in let v = p .1 ∙ sym (q .1) in λ i. (n i, v i))
+
+pub one-record-return : (b : List ℕ) (i r r₂ : ℕ) → RecordReturns b i r → RecordReturns b i r₂ → r ≡ r₂
+unfolding RecordReturns
+one-record-return b i = one-numbered _
+
+pub one-count-return : (b : List ℕ) (i k r r₂ : ℕ) → CountReturns b i k r → CountReturns b i k r₂ → r ≡ r₂
+unfolding CountReturns
+one-count-return b i k = one-numbered _

@@ -1,8 +1,13 @@
 -- What the C interface returns: the refusal's number times 2^32, plus a value, which is 0 on refusal.
 use Prim.Native.Nat.{ℕ, _+_, _*_, _<_}
 use mathlib.Core.Path.{_≡_}
-use mathlib.Core.List.{List}
-use Rattle.index.specs.Calls.{Makes, Message, WritesSet, ReadsSet}
+use mathlib.Core.Bool.{cond}
+use mathlib.Core.List.{List, [], _∷_}
+use lib.Dec.{ltb}
+use Rattle.index.specs.Numbers.{First, Answers}
+use Rattle.index.specs.Block.{size, key, id, countAt}
+use Rattle.index.specs.Message.{IsKind, kindOf}
+use Rattle.index.specs.Calls.{blockNeeds, Makes, Message, WritesSet, ReadsSet}
 use Rattle.rights.specs.Questions.{Full, Short}
 
 -- The number n and the value v, which fits 32 bits, as one number r of 64 bits.
@@ -14,7 +19,7 @@ pub record Packed (n v r : ℕ) : Type 0 where
 abbrev pub Returned : (ℕ → ℕ → Type 0) → ℕ → Type 0
 Returned Outcome r = (n : ℕ) × (v : ℕ) × Packed n v r × Outcome n v
 
--- The six calls, by the promises of the libraries below. Those that return a number only have the value 0.
+-- The calls, by the promises of the libraries below. Those that return a number only have the value 0.
 unfoldable pub MakeReturns : List ℕ → ℕ → List ℕ → Type 0
 MakeReturns b r b′ = Returned (λ n v. (v ≡ 0) × Makes b (n, b′)) r
 
@@ -32,3 +37,26 @@ WriteReturns b kind x out r out′ = Returned (λ n v. WritesSet b kind x out (n
 
 unfoldable pub ReadReturns : List ℕ → ℕ → ℕ → List ℕ → ℕ → List ℕ → Type 0
 ReadReturns b kind x text r b′ = Returned (λ n v. ReadsSet b kind x text (n, v, b′)) r
+
+-- ---- a block as it stands, record by record: only the first of these four calls tests it
+
+-- 1: "block length not 16 to 40,976"; 2: "block not good".
+unfoldable pub TestedReturns : List ℕ → ℕ → Type 0
+TestedReturns b r = Returned (λ n v. (v ≡ 0) × Answers (blockNeeds b) n) r
+
+-- How many records of the kind. 3: "kind not 1 to 3".
+unfoldable pub SizeReturns : List ℕ → ℕ → ℕ → Type 0
+SizeReturns b kind r =
+    Returned (λ n v. First {O = ℕ × ℕ} (λ n. (n, 0)) ((3, IsKind kind) ∷ []) (λ o. o ≡ (0, size b (kindOf kind))) (n, v)) r
+
+-- Records are numbered from 0 on through all three parts. Past the block's bytes, and above 65,535, there is nothing but 0.
+abbrev pub numbered : ℕ → ℕ → ℕ
+numbered i v = cond (ltb i 65536) v 0
+
+-- The key of record i, and its id times 65,536.
+unfoldable pub RecordReturns : List ℕ → ℕ → ℕ → Type 0
+RecordReturns b i r = Returned (λ n v. (n ≡ 0) × (v ≡ numbered i (key b i + 65536 * id b i))) r
+
+-- The count of letter k in record i.
+unfoldable pub CountReturns : List ℕ → ℕ → ℕ → ℕ → Type 0
+CountReturns b i k r = Returned (λ n v. (n ≡ 0) × (v ≡ numbered i (countAt b i k))) r

@@ -1,11 +1,12 @@
 // The C interface: each call returns the refusal's number times 2^32, plus a value, which is 0 on refusal.
+use index::LETTER_COUNT;
 use index::Took;
 use index::Wrote;
 use rights::Answer;
 use rights::Rights;
 ghost use mathlib.Core.Path.{_≡_};
 ghost use Prim.Native.Nat.{_<_};
-ghost use Rattle.anaqsiro.specs.Returned.{Packed, MakeReturns, MessageReturns, RightsReturns, MayReturns, WriteReturns, ReadReturns};
+ghost use Rattle.anaqsiro.specs.Returned.{Packed, MakeReturns, MessageReturns, RightsReturns, MayReturns, WriteReturns, ReadReturns, TestedReturns, SizeReturns, RecordReturns, CountReturns};
 
 // The number and the value as one number.
 fn packed(number: u8, value: u64) -> u64
@@ -74,4 +75,63 @@ pub extern "C" fn anaqsiro_read(block: &mut [u8], kind: u64, key: u64, text: &[u
         Took::Set(records) => packed(0, records as u64),
         Took::Refused(number) => packed(number, 0),
     }
+}
+
+// ---- a block as it stands, record by record: only the first call tests it
+
+// Whether a block is good.
+#[no_mangle]
+pub extern "C" fn anaqsiro_tested(block: &[u8]) -> u64
+    ensures { λ r. ⌜ TestedReturns (now (block .entry)) r ⌝ }
+{
+    packed(index::tested(block), 0)
+}
+
+// How many records of a kind the header says there are.
+#[no_mangle]
+pub extern "C" fn anaqsiro_size(block: &[u8], kind: u64) -> u64
+    ensures { λ r. ⌜ SizeReturns (now (block .entry)) kind r ⌝ }
+{
+    if kind < 1 {
+        return packed(3, 0);
+    }
+    if kind > 3 {
+        return packed(3, 0);
+    }
+    packed(0, index::size_of(block, index::kind_of(kind)) as u64)
+}
+
+// The greatest number of a record that the doors take; no good block has one so high.
+const LAST_RECORD: u64 = 65535;
+
+// The key of a record, plus 2^16 times its id. Records are numbered from 0 on through all three parts, M, P, F.
+#[no_mangle]
+pub extern "C" fn anaqsiro_record(block: &[u8], number: u64) -> u64
+    ensures { λ r. ⌜ RecordReturns (now (block .entry)) number r ⌝ }
+{
+    if number > LAST_RECORD {
+        return packed(0, 0);
+    }
+    let i = number as u16;
+    packed(
+        0,
+        index::key_of(block, i) as u64 + 65536 * (index::id_of(block, i) as u64),
+    )
+}
+
+// The count of a letter in a record.
+#[no_mangle]
+pub extern "C" fn anaqsiro_count(block: &[u8], number: u64, letter: u64) -> u64
+    ensures { λ r. ⌜ CountReturns (now (block .entry)) number letter r ⌝ }
+{
+    if number > LAST_RECORD {
+        return packed(0, 0);
+    }
+    if letter >= LETTER_COUNT as u64 {
+        return packed(0, 0);
+    }
+    packed(
+        0,
+        index::count_of(block, number as u16, letter as u8) as u64,
+    )
 }

@@ -5,7 +5,7 @@ ghost use mathlib.Core.Path.{_≡_};
 ghost use Rattle.index.specs.Message.{kindOf};
 
 // The kind that the numbers 1, 2 and 3 stand for.
-pub(crate) fn kind_of(n: u64) -> Kind
+pub fn kind_of(n: u64) -> Kind
     ensures { λ r. ⌜ r ≡ kindOf n ⌝ }
 {
     if n == 1 {
