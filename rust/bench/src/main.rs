@@ -1,16 +1,16 @@
 //! Times the library beside the plain program in one run, and prints ratios: bench. ANAQSIRO_BEFORE names a shared object of an
 //! archive from before, which is then timed beside the two; `tools/ratios` makes it.
 //!
-//! Each figure is the median over several rounds of some milliseconds; in a round each program does the same calls, in turn, on
-//! a block that its own calls have made. Buffers are warm: each call works on what the call before left.
+//! Each figure is the median over several rounds of some milliseconds of the processor's time; in a round each program does the
+//! same calls, in turn, on a block that its own calls have made. Buffers are warm: each call works on what the call before left.
 
 use compare::Archive;
 use plain::{Plain, ALL, CHAIN, HEADER, MESSAGE, NAMES, NEW, OLD, ROOM};
 use second::drive::{Library, TEXT};
 use second::gen::Rng;
+use std::ffi::c_int;
 use std::hint::black_box;
 use std::ops::Range;
-use std::time::Instant;
 
 const ROUNDS: usize = 31;
 
@@ -97,10 +97,32 @@ fn asked(n: usize) -> (u64, u64) {
     (u64::from(PEOPLE.start) + 9 * (n as u64 % 64), u64::from(OBJECTS.start) + n as u64 % 100)
 }
 
+/// A time as C has it.
+#[repr(C)]
+struct Time {
+    seconds: i64,
+    nanoseconds: i64,
+}
+
+extern "C" {
+    fn clock_gettime(clock: c_int, time: *mut Time) -> c_int;
+}
+
+/// The clock of the processor's time that this thread has had.
+const OWN: c_int = 3;
+
+/// What that clock shows, in seconds. What other programs take of the processor meanwhile does not count.
+fn clock() -> f64 {
+    let mut time = Time { seconds: 0, nanoseconds: 0 };
+    // SAFETY: the call writes the one value that it is lent.
+    assert_eq!(unsafe { clock_gettime(OWN, &mut time) }, 0, "the thread has a clock");
+    time.seconds as f64 + 1e-9 * time.nanoseconds as f64
+}
+
 fn seconds(times: usize, call: &mut impl FnMut(usize)) -> f64 {
-    let start = Instant::now();
+    let start = clock();
     (0..times).for_each(call);
-    start.elapsed().as_secs_f64() / times as f64
+    (clock() - start) / times as f64
 }
 
 fn median(values: impl Iterator<Item = f64>) -> f64 {
