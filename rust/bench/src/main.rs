@@ -1,5 +1,6 @@
-//! Times the library beside the plain program in one run, and prints ratios: bench. ANAQSIRO_BEFORE names a shared object of an
-//! archive from before, which is then timed beside the two; `tools/ratios` makes it.
+//! Times the library beside the plain program in one run, and prints ratios: bench. ANAQSIRO_NOW and ANAQSIRO_BEFORE name shared
+//! objects of two archives, as `tools/ratios` makes them: the first is then the library, in place of the archive that is linked,
+//! and the second is timed beside it.
 //!
 //! Each figure is the median over several rounds of some milliseconds of the processor's time; in a round each program does the
 //! same calls, in turn, on a block that its own calls have made. Buffers are warm: each call works on what the call before left.
@@ -8,6 +9,7 @@ use compare::Archive;
 use plain::{Plain, ALL, CHAIN, HEADER, MESSAGE, NAMES, NEW, OLD, ROOM};
 use second::drive::{Library, TEXT};
 use second::gen::Rng;
+use std::env::var;
 use std::ffi::c_int;
 use std::hint::black_box;
 use std::ops::Range;
@@ -156,9 +158,11 @@ struct Programs(Vec<Box<dyn Library>>);
 
 impl Programs {
     fn new() -> Result<Programs, String> {
-        let mut programs: Vec<Box<dyn Library>> = vec![Box::new(Archive::linked()), Box::new(Plain)];
-        if let Ok(path) = std::env::var("ANAQSIRO_BEFORE") {
-            programs.push(Box::new(Archive::loaded(&path)?));
+        let named = |name: &str| var(name).ok().map(|path| Archive::loaded(&path)).transpose();
+        let library = named("ANAQSIRO_NOW")?.unwrap_or_else(Archive::linked);
+        let mut programs: Vec<Box<dyn Library>> = vec![Box::new(library), Box::new(Plain)];
+        if let Some(before) = named("ANAQSIRO_BEFORE")? {
+            programs.push(Box::new(before));
         }
         Ok(Programs(programs))
     }
@@ -248,7 +252,7 @@ fn large_set(programs: &Programs) {
 }
 
 /// How the time of a question grows with the number of memberships.
-fn growth() {
+fn growth(programs: &Programs) {
     println!("\nThe full question by memberships (200 grants), as multiples of the question with none\n");
     println!("| memberships | library | Rust |\n|---|---|---|");
     let grown = |library: &dyn Library, memberships: usize| {
@@ -262,7 +266,7 @@ fn growth() {
         ratio(&in_turn(&mut calls), 0, 1)
     };
     for memberships in [250, 500, 1000, 1800] {
-        let (library, rust) = (grown(&Archive::linked(), memberships), grown(&Plain, memberships));
+        let (library, rust) = (grown(programs.0[0].as_ref(), memberships), grown(programs.0[1].as_ref(), memberships));
         println!("| {memberships} | {library:.1} | {rust:.1} |");
     }
 }
@@ -294,6 +298,6 @@ fn main() -> Result<(), String> {
     measure(&programs, "The mill: 1,258 memberships, 200 grants, 40 filters", &MILL);
     measure(&programs, "Full: 1,500 memberships, 500 grants, 45 filters, room for 3 more", &FULL);
     large_set(&programs);
-    growth();
+    growth(&programs);
     Ok(())
 }
