@@ -13,6 +13,8 @@
 #define CHAIN 40u
 #define LIMIT (12u * 1024u)
 
+enum { KEY = 900, FAR = 1000 };
+
 static uint8_t stack[1u << 18];
 static uint8_t block[ANAQSIRO_BLOCK_MIN + (CHAIN + 3) * ANAQSIRO_RECORD];
 static uint8_t out[4096];
@@ -30,7 +32,7 @@ static void put_half(uint8_t *half, unsigned key, unsigned id, uint8_t mask) {
 
 static void add(uint8_t kind, unsigned key, unsigned id, uint8_t mask) {
     uint8_t message[ANAQSIRO_MESSAGE] = {kind, ANAQSIRO_HAS_NEW};
-    put_half(message + 7, key, id, mask);
+    put_half(message + ANAQSIRO_NEW_AT, key, id, mask);
     anaqsiro_message(block, sizeof block, message, sizeof message);
 }
 
@@ -38,11 +40,11 @@ static uint8_t update[ANAQSIRO_MESSAGE] = {ANAQSIRO_MEMBERSHIP, ANAQSIRO_HAS_PRE
 
 static uint64_t call_make(void) { return anaqsiro_make(block, sizeof block); }
 static uint64_t call_message(void) { return anaqsiro_message(block, sizeof block, update, sizeof update); }
-static uint64_t call_rights(void) { return anaqsiro_rights(block, sizeof block, 1, 1, 15); }
-static uint64_t call_may(void) { return anaqsiro_may(block, sizeof block, 1, 1, 1); }
-static uint64_t call_write(void) { return anaqsiro_write(block, sizeof block, ANAQSIRO_PERMISSION, 900, out, sizeof out); }
+static uint64_t call_rights(void) { return anaqsiro_rights(block, sizeof block, 1, 1, ANAQSIRO_ALL); }
+static uint64_t call_may(void) { return anaqsiro_may(block, sizeof block, 1, 1, ANAQSIRO_CREATE); }
+static uint64_t call_write(void) { return anaqsiro_write(block, sizeof block, ANAQSIRO_PERMISSION, KEY, out, sizeof out); }
 static uint64_t call_read(void) {
-    return anaqsiro_read(block, sizeof block, ANAQSIRO_PERMISSION, 900, text, sizeof text - 1);
+    return anaqsiro_read(block, sizeof block, ANAQSIRO_PERMISSION, KEY, text, sizeof text - 1);
 }
 
 /* Runs on the painted stack, and counts from its own frame down to the deepest byte that the call has written. */
@@ -72,17 +74,17 @@ static void measure(const char *name, uint64_t (*what)(void)) {
 int main(void) {
     anaqsiro_make(block, sizeof block);
     for (unsigned name = 1; name <= CHAIN; name++) {
-        add(ANAQSIRO_MEMBERSHIP, name, name + 1, 15);
+        add(ANAQSIRO_MEMBERSHIP, name, name + 1, ANAQSIRO_ALL);
     }
-    put_half(update + 2, 1, 2, ANAQSIRO_CREATE);
-    put_half(update + 7, 1000, 1000, ANAQSIRO_CREATE);
+    put_half(update + ANAQSIRO_PREVIOUS_AT, 1, 2, ANAQSIRO_CREATE);
+    put_half(update + ANAQSIRO_NEW_AT, FAR, FAR, ANAQSIRO_CREATE);
     measure("anaqsiro_message", call_message);
     measure("anaqsiro_read", call_read);
     measure("anaqsiro_write", call_write);
     measure("anaqsiro_rights", call_rights);
     measure("anaqsiro_may", call_may);
-    put_half(update + 2, 2, 3, ANAQSIRO_READ);
-    put_half(update + 7, 1001, 1001, ANAQSIRO_CREATE);
+    put_half(update + ANAQSIRO_PREVIOUS_AT, 2, 3, ANAQSIRO_READ);
+    put_half(update + ANAQSIRO_NEW_AT, FAR + 1, FAR + 1, ANAQSIRO_CREATE);
     measure("anaqsiro_message", call_message);
     measure("anaqsiro_make", call_make);
     return deepest > LIMIT;

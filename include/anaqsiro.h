@@ -19,19 +19,31 @@
 extern "C" {
 #endif
 
-/* A block is this long at least and at most; each record takes 20 bytes after the first 16. */
-#define ANAQSIRO_BLOCK_MIN 16u
-#define ANAQSIRO_BLOCK_MAX 40976u
-#define ANAQSIRO_RECORD 20u
+/* Names of users, groups and objects are below this number; 0 is the group of all resources. */
+#define ANAQSIRO_NAMES 1024u
 
-/* A message has 12 bytes: kind, flags, then the previous and the new half, 5 bytes each: key, id (16 bits each, low byte
- * first) and mask. An absent half is five zero bytes. */
-#define ANAQSIRO_MESSAGE 12u
+/* A record has a count for each letter, and no count is above this one. */
+#define ANAQSIRO_LETTERS 8u
+#define ANAQSIRO_COUNT_MAX 65535u
+
+/* A block is this long at least and at most. Each record, of a key, an id and the counts, 16 bits each, takes so many bytes of
+ * what is over the least length, and no block has room for more than so many. */
+#define ANAQSIRO_RECORD (2u * (2u + ANAQSIRO_LETTERS))
+#define ANAQSIRO_ROOM_MAX 2048u
+#define ANAQSIRO_BLOCK_MIN 16u
+#define ANAQSIRO_BLOCK_MAX (ANAQSIRO_BLOCK_MIN + ANAQSIRO_ROOM_MAX * ANAQSIRO_RECORD)
+
+/* A message: kind, flags, then the previous half at the first of these places and the new one at the second. A half is key, id
+ * (16 bits each, low byte first) and mask; an absent half is zero bytes. */
+#define ANAQSIRO_HALF 5u
+#define ANAQSIRO_PREVIOUS_AT 2u
+#define ANAQSIRO_NEW_AT (ANAQSIRO_PREVIOUS_AT + ANAQSIRO_HALF)
+#define ANAQSIRO_MESSAGE (ANAQSIRO_NEW_AT + ANAQSIRO_HALF)
 #define ANAQSIRO_HAS_PREVIOUS 1u
 #define ANAQSIRO_HAS_NEW 2u
 
-/* Names of users, groups and objects are 0 to 1023; 0 is the group of all resources. */
-#define ANAQSIRO_NAMES 1024u
+/* No text of a set is longer. */
+#define ANAQSIRO_TEXT_MAX (ANAQSIRO_ROOM_MAX * (7u + 6u * ANAQSIRO_LETTERS))
 
 /* What a record says. */
 enum anaqsiro_kind {
@@ -40,7 +52,7 @@ enum anaqsiro_kind {
     ANAQSIRO_FILTER = 3      /* the filter named id bounds key */
 };
 
-/* The letters of a mask: four rights, and the denial of each, which P records alone may have. */
+/* The letters of a mask: four rights, and the denial of each, which permissions alone may have. */
 enum anaqsiro_letter {
     ANAQSIRO_CREATE = 1,
     ANAQSIRO_READ = 2,
@@ -49,22 +61,23 @@ enum anaqsiro_letter {
     ANAQSIRO_NO_CREATE = 16,
     ANAQSIRO_NO_READ = 32,
     ANAQSIRO_NO_UPDATE = 64,
-    ANAQSIRO_NO_DELETE = 128
+    ANAQSIRO_NO_DELETE = 128,
+    ANAQSIRO_ALL = ANAQSIRO_CREATE | ANAQSIRO_READ | ANAQSIRO_UPDATE | ANAQSIRO_DELETE
 };
 
 /* The numbers that a call can give. */
 enum anaqsiro_number {
     ANAQSIRO_ACCEPTED = 0,
-    ANAQSIRO_BLOCK_LENGTH = 1,   /* block length not 16 to 40,976 */
-    ANAQSIRO_BLOCK_NOT_GOOD = 2, /* block not good */
-    ANAQSIRO_FORM = 3,           /* message not 12 bytes, or kind, flags or an absent half wrong; kind not 1 to 3 */
-    ANAQSIRO_NAME = 4,           /* a name above 1023, given by the caller or in a present half */
-    ANAQSIRO_MASK = 5,           /* request 0 or above 15; a present half's mask 0, or above 15 for M or F */
+    ANAQSIRO_BLOCK_LENGTH = 1,    /* block length not ANAQSIRO_BLOCK_MIN to ANAQSIRO_BLOCK_MAX */
+    ANAQSIRO_BLOCK_NOT_GOOD = 2,  /* block not good */
+    ANAQSIRO_FORM = 3,            /* message not ANAQSIRO_MESSAGE bytes, or kind, flags or an absent half wrong; no such kind */
+    ANAQSIRO_NAME = 4,            /* a name not below ANAQSIRO_NAMES, given by the caller or in a present half */
+    ANAQSIRO_MASK = 5,            /* request or a present half's mask 0, or above ANAQSIRO_ALL (a permission's mask may be) */
     ANAQSIRO_NOTHING_TO_TAKE = 6, /* a letter of the previous half has count 0 or no record */
-    ANAQSIRO_COUNT_FULL = 7,     /* after taking away, a letter to add stands at 65,535 */
-    ANAQSIRO_NO_ROOM = 8,        /* after taking away (or removing the old set), the records do not fit */
-    ANAQSIRO_TEXT = 9,           /* not the text of any set of that kind */
-    ANAQSIRO_TEXT_LONG = 10      /* text longer than the output buffer */
+    ANAQSIRO_COUNT_FULL = 7,      /* after taking away, a letter to add stands at ANAQSIRO_COUNT_MAX */
+    ANAQSIRO_NO_ROOM = 8,         /* after taking away (or removing the old set), the records do not fit */
+    ANAQSIRO_TEXT = 9,            /* not the text of any set of that kind */
+    ANAQSIRO_TEXT_LONG = 10       /* text longer than the output buffer */
 };
 
 /* Makes the block an empty one. Numbers 0, 1. Value 0. */

@@ -30,7 +30,8 @@
 use std::fmt;
 use std::ops::BitOr;
 
-mod raw {
+/// The C interface, as `include/anaqsiro.h` declares it. Each call returns the refusal's number times 2^32 plus a value.
+pub mod raw {
     #[link(name = "anaqsiro", kind = "static")]
     extern "C" {
         pub fn anaqsiro_make(block: *mut u8, len: usize) -> u64;
@@ -41,6 +42,9 @@ mod raw {
         pub fn anaqsiro_read(block: *mut u8, len: usize, kind: u64, key: u64, text: *const u8, text_len: usize) -> u64;
     }
 }
+
+/// The names of users, groups and objects are below this number; 0 is the group of all resources.
+pub const NAMES: u64 = 1024;
 
 /// What a record says.
 #[derive(Clone, Copy, Debug, PartialEq, Eq, Hash)]
@@ -67,7 +71,7 @@ impl Rights {
 
     /// The denial of each of these rights.
     pub fn denied(self) -> Rights {
-        Rights(self.0 << 4)
+        Rights(self.0 << Self::ALL.0.count_ones())
     }
 
     /// Whether all of the others are among these.
@@ -87,19 +91,19 @@ impl BitOr for Rights {
 /// Why a call was refused. Nothing has changed then.
 #[derive(Clone, Copy, Debug, PartialEq, Eq, Hash)]
 pub enum Refusal {
-    /// 1: block length not 16 to 40,976.
+    /// 1: block length not [`Block::SHORTEST`] to [`Block::LONGEST`].
     BlockLength,
     /// 2: block not good.
     BlockNotGood,
-    /// 3: message not 12 bytes, or kind, flags or an absent half wrong.
+    /// 3: message not as long as a [`Message`], or kind, flags or an absent half wrong.
     Form,
-    /// 4: a name above 1023.
+    /// 4: a name that is not below [`NAMES`].
     Name,
-    /// 5: request 0 or above 15; a mask 0, or above 15 for a membership or a filter.
+    /// 5: request 0 or not of rights only; a mask 0, or not of rights only for a membership or a filter.
     Mask,
     /// 6: a letter of the previous half has count 0 or no record.
     NothingToTake,
-    /// 7: after taking away, a letter to add stands at 65,535.
+    /// 7: after taking away, a letter to add stands at [`u16::MAX`].
     CountFull,
     /// 8: after taking away, the records do not fit.
     NoRoom,
@@ -110,7 +114,8 @@ pub enum Refusal {
 }
 
 impl Refusal {
-    const ALL: [Refusal; 10] = [
+    /// Each refusal, in the order of the numbers.
+    pub const ALL: [Refusal; 10] = [
         Refusal::BlockLength,
         Refusal::BlockNotGood,
         Refusal::Form,
@@ -123,7 +128,7 @@ impl Refusal {
         Refusal::TextLong,
     ];
 
-    /// The number of the refusal, 1 to 10.
+    /// The number of the refusal, 1 for the first of [`Refusal::ALL`].
     pub fn number(self) -> u32 {
         self as u32 + 1
     }
@@ -132,13 +137,13 @@ impl Refusal {
 impl fmt::Display for Refusal {
     fn fmt(&self, f: &mut fmt::Formatter<'_>) -> fmt::Result {
         let why = match self {
-            Refusal::BlockLength => "the block is not 16 to 40,976 bytes long",
+            Refusal::BlockLength => "the block is too short or too long",
             Refusal::BlockNotGood => "the block is not good",
             Refusal::Form => "the message is not well formed",
-            Refusal::Name => "a name is above 1023",
+            Refusal::Name => "a name is out of range",
             Refusal::Mask => "a mask or a request is out of range",
             Refusal::NothingToTake => "a letter to take away has no count",
-            Refusal::CountFull => "a count stands at 65,535",
+            Refusal::CountFull => "a count can not rise",
             Refusal::NoRoom => "the records do not fit",
             Refusal::Text => "the text is of no set of that kind",
             Refusal::TextLong => "the text is longer than the buffer",
@@ -153,7 +158,7 @@ impl std::error::Error for Refusal {}
 fn answer(packed: u64) -> Result<u32, Refusal> {
     match (packed >> 32) as usize {
         0 => Ok(packed as u32),
-        number => Err(Refusal::ALL[(number - 1).min(9)]),
+        number => Err(Refusal::ALL[(number - 1).min(Refusal::ALL.len() - 1)]),
     }
 }
 
@@ -165,22 +170,34 @@ pub struct Half {
     pub mask: Rights,
 }
 
-/// A message of 12 bytes.
+impl Half {
+    /// The bytes of a half in a message: key, id and mask.
+    const BYTES: usize = 5;
+
+    fn put(self, bytes: &mut [u8]) {
+        bytes[..2].copy_from_slice(&self.key.to_le_bytes());
+        bytes[2..4].copy_from_slice(&self.id.to_le_bytes());
+        bytes[4] = self.mask.0;
+    }
+}
+
+/// A message: its kind, which halves are present, and the two halves.
 #[derive(Clone, Copy, Debug, PartialEq, Eq, Hash)]
-pub struct Message(pub [u8; 12]);
+pub struct Message(pub [u8; Message::BYTES]);
 
 impl Message {
+    /// The bytes of a message.
+    pub const BYTES: usize = 2 + 2 * Half::BYTES;
+
     /// What the statement said before, and what it says now.
     pub fn new(kind: Kind, previous: Option<Half>, new: Option<Half>) -> Message {
-        let mut bytes = [0; 12];
-        bytes[0] = kind as u8;
-        for (side, half) in [previous, new].into_iter().enumerate() {
+        let mut bytes = [0; Message::BYTES];
+        let (front, halves) = bytes.split_at_mut(2);
+        front[0] = kind as u8;
+        for (side, (half, bytes)) in [previous, new].into_iter().zip(halves.chunks_mut(Half::BYTES)).enumerate() {
             if let Some(half) = half {
-                bytes[1] |= 1 << side;
-                let at = 2 + 5 * side;
-                bytes[at..at + 2].copy_from_slice(&half.key.to_le_bytes());
-                bytes[at + 2..at + 4].copy_from_slice(&half.id.to_le_bytes());
-                bytes[at + 4] = half.mask.0;
+                front[1] |= 1 << side;
+                half.put(bytes);
             }
         }
         Message(bytes)
@@ -202,10 +219,16 @@ pub struct Block {
 impl Block {
     /// The greatest number of records that a block can have room for.
     pub const GREATEST_ROOM: usize = 2048;
+    /// The bytes of a record: key, id and a count for each letter of a mask, two bytes each.
+    pub const RECORD: usize = 2 * (2 + u8::BITS as usize);
+    /// The bytes of the shortest block, which has room for no record.
+    pub const SHORTEST: usize = 16;
+    /// The bytes of the longest block.
+    pub const LONGEST: usize = Self::SHORTEST + Self::GREATEST_ROOM * Self::RECORD;
 
     /// An empty block with room for so many records, at most [`Block::GREATEST_ROOM`].
     pub fn with_room(records: usize) -> Block {
-        let mut block = Block { bytes: vec![0; 16 + 20 * records.min(Self::GREATEST_ROOM)] };
+        let mut block = Block { bytes: vec![0; Self::SHORTEST + Self::RECORD * records.min(Self::GREATEST_ROOM)] };
         let made = block.clear();
         debug_assert!(made.is_ok());
         block
@@ -292,6 +315,7 @@ impl Block {
 #[cfg(test)]
 mod tests {
     use super::*;
+    use second::drive::Library;
 
     #[test]
     fn a_set_goes_there_and_back() {
@@ -320,31 +344,86 @@ mod tests {
     fn every_refusal_has_its_number() {
         let numbers: Vec<u32> = Refusal::ALL.iter().map(|r| r.number()).collect();
         assert_eq!(numbers, (1..=10).collect::<Vec<_>>());
+        assert_eq!((Block::LONGEST, Message::BYTES), (40_976, 12));
         assert_eq!(Block::from_bytes(vec![]).clear(), Err(Refusal::BlockLength));
         assert_eq!(Block::with_room(1).apply([0u8; 3]), Err(Refusal::Form));
     }
+
+    /// The safe calls where the comparison wants a library. What they have no words for, a kind that is none or a request of
+    /// more than eight bits, goes to the archive itself.
+    struct Safe;
+
+    fn kind_of(number: u64) -> Option<Kind> {
+        [Kind::Membership, Kind::Permission, Kind::Filter].into_iter().find(|&kind| kind as u64 == number)
+    }
+
+    /// An answer put together again.
+    fn packed(answer: Result<usize, Refusal>) -> u64 {
+        answer.map_or_else(|refusal| u64::from(refusal.number()) << 32, |value| value as u64)
+    }
+
+    /// What a call on a block of these bytes gives; the bytes are then the block's.
+    fn on(bytes: &mut [u8], call: impl FnOnce(&mut Block) -> Result<usize, Refusal>) -> u64 {
+        let mut block = Block::from_bytes(bytes.to_vec());
+        let answer = call(&mut block);
+        bytes.copy_from_slice(block.bytes());
+        packed(answer)
+    }
+
+    impl Library for Safe {
+        fn make(&self, block: &mut [u8]) -> u64 {
+            on(block, |block| block.clear().map(|()| 0))
+        }
+
+        fn message(&self, block: &mut [u8], message: &[u8]) -> u64 {
+            on(block, |block| block.apply(message).map(|()| 0))
+        }
+
+        fn rights(&self, block: &[u8], user: u64, object: u64, request: u64) -> u64 {
+            let safe = Block::from_bytes(block.to_vec());
+            match u8::try_from(request) {
+                Ok(mask) => packed(safe.rights(user, object, Rights(mask)).map(|held| held.0.into())),
+                Err(_) => unsafe { raw::anaqsiro_rights(block.as_ptr(), block.len(), user, object, request) },
+            }
+        }
+
+        fn may(&self, block: &[u8], user: u64, object: u64, request: u64) -> u64 {
+            let safe = Block::from_bytes(block.to_vec());
+            match u8::try_from(request) {
+                Ok(mask) => packed(safe.may(user, object, Rights(mask)).map(usize::from)),
+                Err(_) => unsafe { raw::anaqsiro_may(block.as_ptr(), block.len(), user, object, request) },
+            }
+        }
+
+        fn write(&self, block: &[u8], kind: u64, key: u64, out: &mut [u8]) -> u64 {
+            let Some(kind) = kind_of(kind) else {
+                return unsafe { raw::anaqsiro_write(block.as_ptr(), block.len(), kind, key, out.as_mut_ptr(), out.len()) };
+            };
+            let block = Block::from_bytes(block.to_vec());
+            let length = block.write_set(kind, key, out);
+            let whole = block.set_text(kind, key);
+            match length {
+                Ok(length) => assert_eq!(whole.expect("a text").as_bytes(), &out[..length]),
+                Err(Refusal::TextLong) => assert!(whole.expect("a text").len() > out.len()),
+                Err(refusal) => assert_eq!(whole, Err(refusal)),
+            }
+            packed(length)
+        }
+
+        fn read(&self, block: &mut [u8], kind: u64, key: u64, text: &[u8]) -> u64 {
+            match kind_of(kind) {
+                Some(kind) => on(block, |block| block.read_set(kind, key, text)),
+                None => unsafe { raw::anaqsiro_read(block.as_mut_ptr(), block.len(), kind, key, text.as_ptr(), text.len()) },
+            }
+        }
+    }
+
+    /// Blocks that are good or nearly good, messages and texts that are right or wrong in one place: each call answers what
+    /// the second program does, and every number of every call comes up.
     #[test]
     fn any_bytes_are_answered() {
-        let mut seed = 1u64;
-        let mut next = |below: usize| {
-            seed = seed.wrapping_mul(6_364_136_223_846_793_005).wrapping_add(1_442_695_040_888_963_407);
-            (seed >> 33) as usize % below
-        };
-        for _ in 0..20_000 {
-            let mut some = |most: usize| (0..next(most)).map(|_| next(4) as u8 * 85).collect::<Vec<u8>>();
-            let (bytes, other, mut out) = (some(80), some(20), some(30));
-            let mut block = if other.len() < 10 { Block::from_bytes(bytes) } else { Block::with_room(out.len() / 8) };
-            let kind = [Kind::Membership, Kind::Permission, Kind::Filter][out.len() % 3];
-            let before = block.clone();
-            let (name, mask) = (next(1500) as u64, Rights(next(256) as u8));
-            assert_eq!(block.may(name, 9, mask), block.rights(name, 9, mask).map(|held| held == mask));
-            let _ = (block.write_set(kind, name, &mut out), block.set_text(kind, name));
-            assert_eq!(block, before);
-            assert!(block.apply(&other).is_ok() || block == before);
-            let before = block.clone();
-            assert!(block.read_set(kind, name, &other).is_ok() || block == before);
-            assert!(block.clear().is_ok() || block == before);
-        }
+        let tally = second::drive::run(&Safe, 5_000, 3).unwrap_or_else(|what| panic!("{what}"));
+        tally.complete().unwrap_or_else(|what| panic!("{what}"));
     }
 
     #[test]

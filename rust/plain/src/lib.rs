@@ -2,10 +2,29 @@
 //! in place, searches by halves, moves bytes with `copy_within`, takes the memberships out of the block once for each question,
 //! and keeps marks in arrays.
 
-const HEADER: usize = 16;
-const RECORD: usize = 20;
-const GREATEST: usize = 40_976;
+use second::drive::{packed, Library};
+
 const LETTERS: [u8; 8] = *b"MRUPmrup";
+/// How many of the letters are rights, and the mask of those; the denials follow.
+const RIGHTS: usize = 4;
+pub const ALL: u8 = (1 << RIGHTS) - 1;
+const NAME_BITS: usize = 10;
+pub const NAMES: usize = 1 << NAME_BITS;
+pub const CHAIN: usize = 32;
+const MOST: usize = 65_535;
+pub const HEADER: usize = 16;
+/// Key, id and counts, two bytes each.
+pub const RECORD: usize = COUNTS + 2 * LETTERS.len();
+const COUNTS: usize = 4;
+pub const ROOM: usize = 2048;
+pub const GREATEST: usize = HEADER + ROOM * RECORD;
+/// A message: kind and flags, then two halves of five bytes.
+pub const MESSAGE: usize = NEW + HALF;
+pub const OLD: usize = 2;
+pub const NEW: usize = OLD + HALF;
+const HALF: usize = 5;
+const MASK: usize = 4;
+const P: usize = 1;
 
 fn word(b: &[u8], at: usize) -> usize {
     usize::from(u16::from_le_bytes([b[at], b[at + 1]]))
@@ -29,8 +48,9 @@ fn bounds(b: &[u8]) -> [usize; 4] {
     [0, m, m + p, m + p + f]
 }
 
-fn spot(b: &[u8], i: usize) -> usize {
-    word(b, place(i)) << 10 | word(b, place(i) + 2)
+/// Key and id, at `at`, as one number.
+fn pair(b: &[u8], at: usize) -> usize {
+    word(b, at) << NAME_BITS | word(b, at + 2)
 }
 
 /// 0 for a good block, else 1 or 2.
@@ -47,13 +67,13 @@ pub fn tested(b: &[u8]) -> u32 {
         let mut least = 0;
         for record in b[place(at[kind])..place(at[kind + 1])].chunks_exact(RECORD) {
             let (key, id) = (word(record, 0), word(record, 2));
-            let spot = key << 10 | id;
-            if key > 1023 || id > 1023 || spot < least {
+            let spot = key << NAME_BITS | id;
+            if key >= NAMES || id >= NAMES || spot < least {
                 return 2;
             }
             least = spot + 1;
-            let (capitals, smalls) = (four_words(record, 4), four_words(record, 12));
-            if capitals | smalls == 0 || (kind != 1 && smalls != 0) {
+            let (capitals, smalls) = (four_words(record, COUNTS), four_words(record, COUNTS + 2 * RIGHTS));
+            if capitals | smalls == 0 || (kind != P && smalls != 0) {
                 return 2;
             }
         }
@@ -84,7 +104,7 @@ pub fn make(b: &mut [u8]) -> u32 {
 fn lower(b: &[u8], mut lo: usize, mut hi: usize, want: usize) -> usize {
     while lo < hi {
         let mid = (lo + hi) / 2;
-        if spot(b, mid) < want {
+        if pair(b, place(mid)) < want {
             lo = mid + 1;
         } else {
             hi = mid;
@@ -96,7 +116,7 @@ fn lower(b: &[u8], mut lo: usize, mut hi: usize, want: usize) -> usize {
 fn find(b: &[u8], kind: usize, want: usize) -> (usize, bool) {
     let at = bounds(b);
     let i = lower(b, at[kind], at[kind + 1], want);
-    (i, i < at[kind + 1] && spot(b, i) == want)
+    (i, i < at[kind + 1] && pair(b, place(i)) == want)
 }
 
 /// The records from `from` on move so that they begin at `to`; the header follows.
@@ -113,16 +133,16 @@ fn shift(b: &mut [u8], kind: usize, from: usize, to: usize) {
 }
 
 fn count_at(i: usize, k: usize) -> usize {
-    place(i) + 4 + 2 * k
+    place(i) + COUNTS + 2 * k
 }
 
 fn take(b: &mut [u8], kind: usize, want: usize, mask: u8) -> u32 {
     let (i, there) = find(b, kind, want);
-    if !there || (0..8).any(|k| mask >> k & 1 == 1 && word(b, count_at(i, k)) == 0) {
+    if !there || (0..LETTERS.len()).any(|k| mask >> k & 1 == 1 && word(b, count_at(i, k)) == 0) {
         return 6;
     }
     let mut left = 0;
-    for k in 0..8 {
+    for k in 0..LETTERS.len() {
         let n = word(b, count_at(i, k)) - usize::from(mask >> k & 1);
         put_word(b, count_at(i, k), n);
         left |= n;
@@ -136,10 +156,10 @@ fn take(b: &mut [u8], kind: usize, want: usize, mask: u8) -> u32 {
 fn add(b: &mut [u8], kind: usize, want: usize, mask: u8) -> u32 {
     let (i, there) = find(b, kind, want);
     if there {
-        if (0..8).any(|k| mask >> k & 1 == 1 && word(b, count_at(i, k)) == 65_535) {
+        if (0..LETTERS.len()).any(|k| mask >> k & 1 == 1 && word(b, count_at(i, k)) == MOST) {
             return 7;
         }
-        for k in 0..8 {
+        for k in 0..LETTERS.len() {
             let n = word(b, count_at(i, k)) + usize::from(mask >> k & 1);
             put_word(b, count_at(i, k), n);
         }
@@ -148,9 +168,9 @@ fn add(b: &mut [u8], kind: usize, want: usize, mask: u8) -> u32 {
             return 8;
         }
         shift(b, kind, i, i + 1);
-        put_word(b, place(i), want >> 10);
-        put_word(b, place(i) + 2, want & 1023);
-        for k in 0..8 {
+        put_word(b, place(i), want >> NAME_BITS);
+        put_word(b, place(i) + 2, want % NAMES);
+        for k in 0..LETTERS.len() {
             put_word(b, count_at(i, k), usize::from(mask >> k & 1));
         }
     }
@@ -162,33 +182,34 @@ pub fn message(b: &mut [u8], m: &[u8]) -> u32 {
     if number != 0 {
         return number;
     }
-    if m.len() != 12 || !(1..=3).contains(&m[0]) || !(1..=3).contains(&m[1]) {
+    if m.len() != MESSAGE || !(1..=3).contains(&m[0]) || !(1..=3).contains(&m[1]) {
         return 3;
     }
     let (old, new) = (m[1] & 1 == 1, m[1] & 2 == 2);
-    if (!old && m[2..7] != [0; 5]) || (!new && m[7..12] != [0; 5]) {
+    if (!old && m[OLD..NEW] != [0; HALF]) || (!new && m[NEW..] != [0; HALF]) {
         return 3;
     }
-    if [2, 4, 7, 9].into_iter().any(|at| word(m, at) > 1023) {
+    if [OLD, OLD + 2, NEW, NEW + 2].into_iter().any(|at| word(m, at) >= NAMES) {
         return 4;
     }
     let kind = usize::from(m[0]) - 1;
-    let bad = |mask: u8| mask == 0 || (kind != 1 && mask > 15);
-    if (old && bad(m[6])) || (new && bad(m[11])) {
+    let (less, more) = (m[OLD + MASK], m[NEW + MASK]);
+    let bad = |mask: u8| mask == 0 || (kind != P && mask > ALL);
+    if (old && bad(less)) || (new && bad(more)) {
         return 5;
     }
-    let (from, to) = (word(m, 2) << 10 | word(m, 4), word(m, 7) << 10 | word(m, 9));
+    let (from, to) = (pair(m, OLD), pair(m, NEW));
     if old {
-        let number = take(b, kind, from, m[6]);
+        let number = take(b, kind, from, less);
         if number != 0 {
             return number;
         }
     }
     if new {
-        let number = add(b, kind, to, m[11]);
+        let number = add(b, kind, to, more);
         if number != 0 {
             if old {
-                add(b, kind, from, m[6]);
+                add(b, kind, from, less);
             }
             return number;
         }
@@ -197,19 +218,19 @@ pub fn message(b: &mut [u8], m: &[u8]) -> u32 {
 }
 
 fn net(b: &[u8], i: usize) -> u8 {
-    let mask = (0..8).fold(0u8, |m, k| m | u8::from(word(b, count_at(i, k)) > 0) << k);
-    mask & !(mask >> 4) & 15
+    let mask = (0..LETTERS.len()).fold(0u8, |m, k| m | u8::from(word(b, count_at(i, k)) > 0) << k);
+    mask & !(mask >> RIGHTS) & ALL
 }
 
 /// The key, the id and the net mask of each M record.
-fn links(b: &[u8]) -> Vec<(u16, u16, u8)> {
+pub fn links(b: &[u8]) -> Vec<(u16, u16, u8)> {
     (0..bounds(b)[1]).map(|i| (word(b, place(i)) as u16, word(b, place(i) + 2) as u16, net(b, i))).collect()
 }
 
-fn side(links: &[(u16, u16, u8)], start: usize) -> [u8; 1024] {
-    let mut marks = [0u8; 1024];
-    marks[start] = 15;
-    for _ in 0..32 {
+fn side(links: &[(u16, u16, u8)], start: usize) -> [u8; NAMES] {
+    let mut marks = [0u8; NAMES];
+    marks[start] = ALL;
+    for _ in 0..CHAIN {
         let before = marks;
         let mut grew = 0;
         for &(key, id, net) in links {
@@ -228,13 +249,13 @@ fn side(links: &[(u16, u16, u8)], start: usize) -> [u8; 1024] {
 fn filter(b: &[u8], object: usize) -> u8 {
     let at = bounds(b);
     let of = |name: usize| {
-        let i = lower(b, at[2], at[3], name << 10);
+        let i = lower(b, at[2], at[3], name << NAME_BITS);
         (i < at[3] && word(b, place(i)) == name).then(|| net(b, i))
     };
-    let first = lower(b, 0, at[1], object << 10);
+    let first = lower(b, 0, at[1], object << NAME_BITS);
     of(object)
         .or_else(|| (first..at[1]).take_while(|&i| word(b, place(i)) == object).find_map(|i| of(word(b, place(i) + 2))))
-        .unwrap_or(15)
+        .unwrap_or(ALL)
 }
 
 fn question(b: &[u8], user: u64, object: u64, request: u64) -> Result<u8, u32> {
@@ -242,17 +263,17 @@ fn question(b: &[u8], user: u64, object: u64, request: u64) -> Result<u8, u32> {
     if number != 0 {
         return Err(number);
     }
-    if user > 1023 || object > 1023 {
+    if user >= NAMES as u64 || object >= NAMES as u64 {
         return Err(4);
     }
-    if request == 0 || request > 15 {
+    if request == 0 || request > ALL.into() {
         return Err(5);
     }
     let (request, at) = (request as u8, bounds(b));
     let links = links(b);
     let users = side(&links, user as usize);
     let mut objects = side(&links, object as usize);
-    objects[0] = 15;
+    objects[0] = ALL;
     let limit = filter(b, object as usize) & request;
     let mut held = 0;
     for i in at[1]..at[2] {
@@ -280,12 +301,12 @@ fn set_bounds(b: &[u8], kind: u64, key: u64) -> Result<(usize, usize, usize), u3
     if !(1..=3).contains(&kind) {
         return Err(3);
     }
-    if key > 1023 {
+    if key >= NAMES as u64 {
         return Err(4);
     }
-    let (kind, want, at) = (kind as usize - 1, (key as usize) << 10, bounds(b));
+    let (kind, want, at) = (kind as usize - 1, (key as usize) << NAME_BITS, bounds(b));
     let lo = lower(b, at[kind], at[kind + 1], want);
-    Ok((kind, lo, lower(b, lo, at[kind + 1], want + 1024)))
+    Ok((kind, lo, lower(b, lo, at[kind + 1], want + NAMES)))
 }
 
 struct Out<'a> {
@@ -360,22 +381,22 @@ fn number(text: &[u8], at: &mut usize, most: usize) -> Option<usize> {
 }
 
 /// Reads the set of a text, handing each record's id and counts on; how many there are, or None where it is of no set.
-fn scan(text: &[u8], kind: usize, mut each: impl FnMut(usize, usize, &[usize; 8])) -> Option<usize> {
+fn scan(text: &[u8], kind: usize, mut each: impl FnMut(usize, usize, &[usize; LETTERS.len()])) -> Option<usize> {
     let (mut at, mut records, mut least) = (0, 0, 0);
     while at < text.len() || records > 0 {
-        let id = number(text, &mut at, 1023)?;
+        let id = number(text, &mut at, NAMES - 1)?;
         if id < least || text.get(at) != Some(&b';') {
             return None;
         }
         at += 1;
-        let mut counts = [0; 8];
+        let mut counts = [0; LETTERS.len()];
         let start = at;
-        for k in 0..if kind == 1 { 8 } else { 4 } {
+        for k in 0..if kind == P { LETTERS.len() } else { RIGHTS } {
             if text.get(at) == Some(&LETTERS[k]) {
                 at += 1;
                 counts[k] = 1;
                 if text.get(at).is_some_and(u8::is_ascii_digit) {
-                    counts[k] = number(text, &mut at, 65_535).filter(|&n| n > 1)?;
+                    counts[k] = number(text, &mut at, MOST).filter(|&n| n > 1)?;
                 }
             }
         }
@@ -413,4 +434,37 @@ pub fn read(b: &mut [u8], kind: u64, key: u64, text: &[u8]) -> (u32, u32) {
         counts.iter().enumerate().for_each(|(k, &c)| put_word(b, count_at(i, k), c));
     });
     (0, records as u32)
+}
+
+/// The calls as the C interface has them.
+pub struct Plain;
+
+impl Library for Plain {
+    fn make(&self, block: &mut [u8]) -> u64 {
+        packed(make(block), 0)
+    }
+
+    fn message(&self, block: &mut [u8], bytes: &[u8]) -> u64 {
+        packed(message(block, bytes), 0)
+    }
+
+    fn rights(&self, block: &[u8], user: u64, object: u64, request: u64) -> u64 {
+        let (number, value) = rights(block, user, object, request);
+        packed(number, value)
+    }
+
+    fn may(&self, block: &[u8], user: u64, object: u64, request: u64) -> u64 {
+        let (number, value) = may(block, user, object, request);
+        packed(number, value)
+    }
+
+    fn write(&self, block: &[u8], kind: u64, key: u64, out: &mut [u8]) -> u64 {
+        let (number, value) = write(block, kind, key, out);
+        packed(number, value)
+    }
+
+    fn read(&self, block: &mut [u8], kind: u64, key: u64, text: &[u8]) -> u64 {
+        let (number, value) = read(block, kind, key, text);
+        packed(number, value)
+    }
 }

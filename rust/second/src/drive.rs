@@ -1,8 +1,9 @@
 //! Holds a library against the second program: random cases, the result and every byte of every lent buffer compared, and
-//! guard bytes around each buffer.
+//! guard bytes around each buffer. A run keeps count of what it met, and says what it should have met and did not.
 
 use crate::gen::{self, Rng};
-use crate::Index;
+use crate::{granted, letters, passes, word, Index, ALL, CHAIN, HEADER, KINDS, LETTERS, M, NAMES};
+use std::collections::{BTreeMap, BTreeSet};
 
 /// The six calls, each returning the refusal's number times 2^32 plus a value, as the C interface does.
 pub trait Library {
@@ -19,14 +20,19 @@ pub fn packed(number: u32, value: u32) -> u64 {
     u64::from(number) << 32 | u64::from(value)
 }
 
+/// No text is longer: an id of four digits, counts of five, and a semicolon after each of the two.
+pub const TEXT: usize = NAMES as usize * (4 + 1 + 6 * LETTERS.len() + 1);
+
 const GUARD: usize = 64;
+const FRONT: u8 = 0xA5;
+const BACK: u8 = 0x5A;
 
 /// A lent buffer with guard bytes before and after it.
 struct Lent(Vec<u8>);
 
 impl Lent {
     fn new(bytes: &[u8]) -> Lent {
-        Lent([&[0xA5; GUARD], bytes, &[0x5A; GUARD]].concat())
+        Lent([&[FRONT; GUARD], bytes, &[BACK; GUARD]].concat())
     }
 
     fn lend(&mut self) -> &mut [u8] {
@@ -38,7 +44,7 @@ impl Lent {
     fn bytes(&self) -> Result<&[u8], String> {
         let (front, rest) = self.0.split_at(GUARD);
         let (bytes, back) = rest.split_at(rest.len() - GUARD);
-        if front.iter().all(|&b| b == 0xA5) && back.iter().all(|&b| b == 0x5A) {
+        if front.iter().all(|&b| b == FRONT) && back.iter().all(|&b| b == BACK) {
             Ok(bytes)
         } else {
             Err("a byte outside the buffer was written".into())
@@ -46,107 +52,273 @@ impl Lent {
     }
 }
 
-pub const CALLS: [&str; 6] = ["make", "message", "rights", "may", "write", "read"];
+/// What each run is to meet, and nothing else: of which call, in what respect, and which.
+const TO_MEET: &[(&str, &str, &[i64])] = &[
+    ("make", "number", &[0, 1]),
+    ("message", "number", &[0, 1, 2, 3, 4, 5, 6, 7, 8]),
+    ("message", "number after a half was taken", &[0, 7, 8]),
+    ("message", "kind accepted", &[1, 2, 3]),
+    ("message", "flags accepted", &[1, 2, 3]),
+    ("message", "records more", &[-1, 0, 1]),
+    ("rights", "number", &[0, 1, 2, 4, 5]),
+    ("rights", "held", &[1, 2, 4, 8]),
+    ("rights", "not held", &[1, 2, 4, 8]),
+    ("rights", "granted, and not in the filter", &[1, 2, 4, 8]),
+    ("rights", "granted only by a chain as long as", &[CHAIN as i64]),
+    ("rights", "not granted but by a chain as long as", &[CHAIN as i64 + 1]),
+    ("may", "number", &[0, 1, 2, 4, 5]),
+    ("may", "answer", &[0, 1]),
+    ("write", "number", &[0, 1, 2, 3, 4, 10]),
+    ("write", "kind accepted, with an empty text", &[1, 2, 3]),
+    ("write", "kind accepted, with a text", &[1, 2, 3]),
+    ("write", "bytes of room over a text", &[-1, 0]),
+    ("read", "number", &[0, 1, 2, 3, 4, 8, 9]),
+    ("read", "kind accepted, with an empty text", &[1, 2, 3]),
+    ("read", "kind accepted, with a text", &[1, 2, 3]),
+    ("read", "kind refused for its text", &[1, 2, 3]),
+    ("read", "records more, or fewer", &[-1, 0, 1]),
+];
 
-/// How often each call gave each number, and how many questions found a right.
+/// How often a run met what.
 #[derive(Default)]
 pub struct Tally {
     pub calls: u64,
-    pub numbers: [[u64; 11]; 6],
-    pub held: u64,
+    met: BTreeMap<(&'static str, &'static str, i64), u64>,
 }
 
 impl Tally {
-    /// What came back, and the buffers then, against what the second program says.
-    fn agree(&mut self, call: usize, got: u64, number: u32, value: u32, lent: &[(&Lent, &[u8])]) -> Result<(), String> {
-        self.calls += 1;
-        self.numbers[call][number as usize] += 1;
-        self.held += u64::from((call == 2 || call == 3) && value > 0);
+    fn saw(&mut self, call: &'static str, what: &'static str, which: i64) {
+        *self.met.entry((call, what, which)).or_default() += 1;
+    }
+
+    /// What was met, a line for each call and respect.
+    pub fn lines(&self) -> Vec<String> {
+        let counted = |&(call, what, all): &(&'static str, &'static str, &[i64])| {
+            let one = |&n: &i64| format!("{n}: {}", self.met.get(&(call, what, n)).unwrap_or(&0));
+            format!("{call}, {what} {}", all.iter().map(one).collect::<Vec<_>>().join(", "))
+        };
+        TO_MEET.iter().map(counted).collect()
+    }
+
+    /// Fails where something was not met, or something was met that no call may give.
+    pub fn complete(&self) -> Result<(), String> {
+        let wanted: BTreeSet<_> =
+            TO_MEET.iter().flat_map(|&(call, what, all)| all.iter().map(move |&n| (call, what, n))).collect();
+        let met = self.met.keys().copied().collect();
+        let told = |what: &str, keys: BTreeSet<(&str, &str, i64)>| {
+            keys.into_iter().map(|(call, respect, n)| format!("{what}: {call}, {respect} {n}")).collect::<Vec<_>>()
+        };
+        let wrong = [told("not met", &wanted - &met), told("met, and not to be met", &met - &wanted)].concat();
+        if wrong.is_empty() {
+            Ok(())
+        } else {
+            Err(wrong.join("\n"))
+        }
+    }
+}
+
+/// A question as the second program answers it, and as a library is asked it.
+type Answer = fn(&[u8], u64, u64, u64) -> (u32, u32);
+type Ask = fn(&dyn Library, &[u8], u64, u64, u64) -> u64;
+
+/// One call in the making: the library, the block that it is made on, and the records of that block or of one like it.
+struct Call<'a> {
+    lib: &'a dyn Library,
+    rng: &'a mut Rng,
+    tally: &'a mut Tally,
+    name: &'static str,
+    block: &'a [u8],
+    index: &'a Index,
+}
+
+impl Call<'_> {
+    fn saw(&mut self, what: &'static str, which: i64) {
+        self.tally.saw(self.name, what, which);
+    }
+
+    /// What came back, and the buffers then, against what the second program says. `words` are those of the call.
+    fn agree(&mut self, got: u64, number: u32, value: u32, lent: &[(&Lent, &[u8])], words: String) -> Result<(), String> {
+        self.tally.calls += 1;
+        self.saw("number", number.into());
+        let told = |what: String| format!("{} {words}: {what}", self.name);
         if got != packed(number, value) {
-            return Err(format!("returned {}, {} where {number}, {value} is right", got >> 32, got as u32));
+            return Err(told(format!("returned {}, {} where {number}, {value} is right", got >> 32, got as u32)));
         }
         for (k, (buffer, want)) in lent.iter().enumerate() {
-            if buffer.bytes()? != *want {
-                return Err(format!("buffer {k} differs"));
+            if buffer.bytes().map_err(told)? != *want {
+                return Err(told(format!("buffer {k} differs")));
             }
         }
         Ok(())
     }
-}
 
-fn one_call(lib: &dyn Library, rng: &mut Rng, tally: &mut Tally, block: &[u8], index: &Index) -> Result<Vec<u8>, String> {
-    let call = rng.pick(&[0usize, 1, 1, 1, 2, 2, 3, 4, 5, 5]);
-    let mut b = Lent::new(block);
-    let told = |e: String, what: String| format!("{} {what}: {e}", CALLS[call]);
-    match call {
-        0 => {
-            let (number, after) = crate::make(block);
-            let got = lib.make(b.lend());
-            tally.agree(call, got, number, 0, &[(&b, &after)]).map_err(|e| told(e, String::new()))?;
-            Ok(if rng.one_in(8) { after } else { block.to_vec() })
+    /// How many records a good block has.
+    fn records(block: &[u8]) -> i64 {
+        (0..KINDS).map(|part| i64::from(word(block, 2 * part))).sum()
+    }
+
+    fn make(&mut self) -> Result<Vec<u8>, String> {
+        let (number, after) = crate::make(self.block);
+        let mut b = Lent::new(self.block);
+        let got = self.lib.make(b.lend());
+        self.agree(got, number, 0, &[(&b, &after)], String::new())?;
+        Ok(if self.rng.one_in(8) { after } else { self.block.to_vec() })
+    }
+
+    fn message(&mut self) -> Result<Vec<u8>, String> {
+        let m = if self.rng.one_in(30) { gen::bytes(self.rng, 14) } else { gen::message(self.rng, self.index) };
+        let (number, after) = crate::message(self.block, &m);
+        let (mut b, mut lent) = (Lent::new(self.block), Lent::new(&m));
+        let got = self.lib.message(b.lend(), lent.lend());
+        self.agree(got, number, 0, &[(&b, &after), (&lent, &m)], format!("{m:02x?}"))?;
+        if number == 0 {
+            self.saw("kind accepted", m[0].into());
+            self.saw("flags accepted", m[1].into());
+            self.saw("records more", Self::records(&after) - Self::records(self.block));
         }
-        1 => {
-            let m = if rng.one_in(30) { gen::bytes(rng, 14) } else { gen::message(rng, index) };
-            let (number, after) = crate::message(block, &m);
-            let mut lent = Lent::new(&m);
-            let got = lib.message(b.lend(), lent.lend());
-            tally.agree(call, got, number, 0, &[(&b, &after), (&lent, &m)]).map_err(|e| told(e, format!("{m:02x?}")))?;
-            Ok(after)
+        if [0, 7, 8].contains(&number) && m[1] & 1 == 1 {
+            self.saw("number after a half was taken", number.into());
         }
-        2 | 3 => {
-            let (user, object) = gen::question(rng, index);
-            let request = if rng.one_in(3) { gen::number(rng, 16) } else { 1 + rng.below(15) };
-            let (number, value) =
-                if call == 2 { crate::rights(block, user, object, request) } else { crate::may(block, user, object, request) };
-            let lent = b.lend();
-            let got =
-                if call == 2 { lib.rights(lent, user, object, request) } else { lib.may(lent, user, object, request) };
-            tally.agree(call, got, number, value, &[(&b, block)]).map_err(|e| told(e, format!("{user} {object} {request}")))?;
-            Ok(block.to_vec())
+        Ok(after)
+    }
+
+    /// Asks a question of both programs; user, object, request and value, where it is accepted.
+    fn asked(&mut self, second: Answer, lib: Ask) -> Result<Option<(u16, u16, u8, u32)>, String> {
+        let (user, object) = gen::question(self.rng, self.index);
+        let request = if self.rng.one_in(3) { gen::number(self.rng, ALL + 1) } else { 1 + self.rng.below(ALL) };
+        let (number, value) = second(self.block, user, object, request);
+        let mut b = Lent::new(self.block);
+        let got = lib(self.lib, b.lend(), user, object, request);
+        self.agree(got, number, value, &[(&b, self.block)], format!("{user} {object} {request}"))?;
+        Ok((number == 0).then_some((user as u16, object as u16, request as u8, value)))
+    }
+
+    fn rights(&mut self) -> Result<Vec<u8>, String> {
+        if let Some((user, object, request, value)) = self.asked(crate::rights, |lib, b, u, o, r| lib.rights(b, u, o, r))? {
+            let index = index_of(self.block);
+            letters(request).for_each(|right| self.saw_right(&index, user, object, right, value >> right & 1 == 1));
         }
-        4 => {
-            let (kind, key) = (gen::number(rng, 4), gen::number(rng, 1024));
-            let full = crate::write(block, kind, key, &[0; 60_000]);
-            let room = match rng.below(4) {
-                0 => full.1 as usize,
-                1 => (full.1 as usize).saturating_sub(1),
-                2 => full.1 as usize + rng.below(5) as usize,
-                _ => rng.below(64) as usize,
-            };
-            let out: Vec<u8> = (0..room).map(|_| rng.next() as u8).collect();
-            let (number, value, after) = crate::write(block, kind, key, &out);
-            let mut lent = Lent::new(&out);
-            let got = lib.write(b.lend(), kind, key, lent.lend());
-            tally.agree(call, got, number, value, &[(&b, block), (&lent, &after)])
-                .map_err(|e| told(e, format!("{kind} {key} into {room}")))?;
-            Ok(block.to_vec())
+        Ok(self.block.to_vec())
+    }
+
+    /// What one right of an accepted question hung on.
+    fn saw_right(&mut self, index: &Index, user: u16, object: u16, right: usize, held: bool) {
+        self.saw(if held { "held" } else { "not held" }, 1 << right);
+        let by = |limit| granted(index, user, object, right, limit);
+        let (filtered, long) = (!passes(index, object, right), index.parts[M].len() >= CHAIN);
+        if filtered && by(CHAIN) {
+            self.saw("granted, and not in the filter", 1 << right);
         }
-        _ => {
-            let (kind, key) = (gen::number(rng, 4), gen::number(rng, 1024));
-            let part = (kind as usize).wrapping_sub(1).min(2);
-            let text = if rng.one_in(30) { gen::bytes(rng, 9) } else { gen::set_text(rng, index, part) };
-            let (number, value, after) = crate::read(block, kind, key, &text);
-            let mut lent = Lent::new(&text);
-            let got = lib.read(b.lend(), kind, key, lent.lend());
-            tally.agree(call, got, number, value, &[(&b, &after), (&lent, &text)])
-                .map_err(|e| told(e, format!("{kind} {key} {}", String::from_utf8_lossy(&text))))?;
-            Ok(after)
+        if long && held && !by(CHAIN - 1) {
+            self.saw("granted only by a chain as long as", CHAIN as i64);
         }
+        if long && !held && !filtered && by(CHAIN + 1) {
+            self.saw("not granted but by a chain as long as", CHAIN as i64 + 1);
+        }
+    }
+
+    fn may(&mut self) -> Result<Vec<u8>, String> {
+        if let Some((.., value)) = self.asked(crate::may, |lib, b, u, o, r| lib.may(b, u, o, r))? {
+            self.saw("answer", value.into());
+        }
+        Ok(self.block.to_vec())
+    }
+
+    /// A kind and a key, good ones mostly.
+    fn set(&mut self) -> (u64, u64) {
+        (gen::number(self.rng, KINDS as u64 + 1), gen::number(self.rng, NAMES.into()))
+    }
+
+    /// An accepted set of the kind, with a text or with none.
+    fn saw_set(&mut self, kind: u64, length: usize) {
+        let what = if length == 0 { "kind accepted, with an empty text" } else { "kind accepted, with a text" };
+        self.saw(what, kind as i64);
+    }
+
+    fn write(&mut self) -> Result<Vec<u8>, String> {
+        let (kind, key) = self.set();
+        let full = crate::write(self.block, kind, key, &[0; TEXT]).1 as usize;
+        let room = match self.rng.below(4) {
+            0 => full,
+            1 => full.saturating_sub(1),
+            2 => full + self.rng.below(5) as usize,
+            _ => self.rng.below(64) as usize,
+        };
+        let out: Vec<u8> = (0..room).map(|_| self.rng.next() as u8).collect();
+        let (number, value, after) = crate::write(self.block, kind, key, &out);
+        let (mut b, mut lent) = (Lent::new(self.block), Lent::new(&out));
+        let got = self.lib.write(b.lend(), kind, key, lent.lend());
+        self.agree(got, number, value, &[(&b, self.block), (&lent, &after)], format!("{kind} {key} into {room}"))?;
+        if number == 0 {
+            self.saw_set(kind, full);
+        }
+        if full > 0 && (room == full || room == full - 1) {
+            self.saw("bytes of room over a text", room as i64 - full as i64);
+        }
+        Ok(self.block.to_vec())
+    }
+
+    fn read(&mut self) -> Result<Vec<u8>, String> {
+        let (kind, key) = self.set();
+        let part = (kind as usize).wrapping_sub(1).min(KINDS - 1);
+        let text = if self.rng.one_in(30) { gen::bytes(self.rng, 9) } else { gen::set_text(self.rng, self.index, part) };
+        let (number, value, after) = crate::read(self.block, kind, key, &text);
+        let (mut b, mut lent) = (Lent::new(self.block), Lent::new(&text));
+        let got = self.lib.read(b.lend(), kind, key, lent.lend());
+        let words = format!("{kind} {key} {}", String::from_utf8_lossy(&text));
+        self.agree(got, number, value, &[(&b, &after), (&lent, &text)], words)?;
+        match number {
+            0 => {
+                self.saw_set(kind, text.len());
+                self.saw("records more, or fewer", (Self::records(&after) - Self::records(self.block)).signum());
+            }
+            9 => self.saw("kind refused for its text", kind as i64),
+            _ => {}
+        }
+        Ok(after)
     }
 }
 
-/// A block, some calls one after the other, and the calls again on the block with one fault.
+type Made = fn(&mut Call) -> Result<Vec<u8>, String>;
+
+/// The calls by name, each as often as it is drawn among ten.
+const CALLS: [(&str, u64, Made); 6] = [
+    ("make", 1, |call| call.make()),
+    ("message", 3, |call| call.message()),
+    ("rights", 2, |call| call.rights()),
+    ("may", 1, |call| call.may()),
+    ("write", 1, |call| call.write()),
+    ("read", 2, |call| call.read()),
+];
+
+/// Makes one call on the block; the block that the next is made on.
+fn one_call(lib: &dyn Library, rng: &mut Rng, tally: &mut Tally, block: &[u8], index: &Index) -> Result<Vec<u8>, String> {
+    let mut drawn = rng.below(CALLS.iter().map(|call| call.1).sum());
+    for (name, often, made) in CALLS {
+        if drawn < often {
+            let mut call = Call { lib, rng, tally, name, block, index };
+            return made(&mut call).map_err(|what| format!("{what}\nblock {block:02x?}"));
+        }
+        drawn -= often;
+    }
+    unreachable!("a call is drawn")
+}
+
+/// The records of a block; none where it is not good.
+fn index_of(block: &[u8]) -> Index {
+    Index::decode(block).unwrap_or_else(|_| Index::empty(block.len()))
+}
+
+/// A block, some calls one after the other, and one more on the block with one fault.
 fn one_case(lib: &dyn Library, rng: &mut Rng, tally: &mut Tally) -> Result<(), String> {
     let mut block = if rng.one_in(40) { gen::bytes(rng, 120) } else { gen::index(rng).encode() };
     for _ in 0..1 + rng.below(8) {
-        let index = Index::decode(&block).unwrap_or_else(|_| Index::empty(block.len()));
-        let before = block.clone();
-        block = one_call(lib, rng, tally, &block, &index).map_err(|e| format!("{e}\nblock {before:02x?}"))?;
+        block = one_call(lib, rng, tally, &block, &index_of(&block))?;
     }
-    if rng.one_in(3) && !block.is_empty() && block.len() >= 16 {
-        let index = Index::decode(&block).unwrap_or_else(|_| Index::empty(block.len()));
+    if rng.one_in(3) && block.len() >= HEADER {
+        let index = index_of(&block);
         gen::damage(rng, &mut block);
-        one_call(lib, rng, tally, &block, &index).map_err(|e| format!("{e}\ndamaged block {block:02x?}"))?;
+        one_call(lib, rng, tally, &block, &index)?;
     }
     Ok(())
 }

@@ -7,13 +7,39 @@ use std::collections::{BTreeMap, BTreeSet};
 pub mod drive;
 pub mod gen;
 
-pub const LETTERS: &[u8; 8] = b"MRUPmrup";
-const HEADER: usize = 16;
-const RECORD: usize = 20;
-const GREATEST: usize = 40_976;
+/// The letters that a record counts, in their order: the rights, then the denial of each.
+pub const LETTERS: [u8; 8] = *b"MRUPmrup";
+/// How many of the letters are rights.
+pub const RIGHTS: usize = 4;
+/// The mask of all rights.
+pub const ALL: u64 = (1 << RIGHTS) - 1;
+/// Names are below this number.
+pub const NAMES: u16 = 1024;
+/// How many records a chain may have.
+pub const CHAIN: usize = 32;
+
+/// The bytes of the header.
+pub const HEADER: usize = 16;
+/// The bytes of a record, and where its counts begin: key, id and counts have 16 bits each.
+pub const RECORD: usize = COUNTS + 2 * LETTERS.len();
+pub const COUNTS: usize = 4;
+/// How many records the longest block has room for, and its bytes.
+pub const ROOM: usize = 2048;
+pub const GREATEST: usize = HEADER + ROOM * RECORD;
+
+/// The bytes of a message, where its halves begin, and the bytes of each: key, id and mask.
+pub const MESSAGE: usize = HALVES + 2 * HALF;
+pub const HALVES: usize = 2;
+pub const HALF: usize = 5;
+
+/// The parts of a block in their order. A kind's number is one more.
+pub const M: usize = 0;
+pub const P: usize = 1;
+pub const F: usize = 2;
+pub const KINDS: usize = 3;
 
 /// The counts of one record, in letter order.
-pub type Counts = [u16; 8];
+pub type Counts = [u16; LETTERS.len()];
 
 /// The records of one kind, by key and id.
 pub type Part = BTreeMap<(u16, u16), Counts>;
@@ -22,11 +48,21 @@ pub type Part = BTreeMap<(u16, u16), Counts>;
 #[derive(Clone, Debug, PartialEq, Eq)]
 pub struct Index {
     pub length: usize,
-    pub parts: [Part; 3],
+    pub parts: [Part; KINDS],
 }
 
 fn word(bytes: &[u8], at: usize) -> u16 {
     u16::from_le_bytes([bytes[at], bytes[at + 1]])
+}
+
+/// Whether the block is as long as a block may be.
+fn sized(block: &[u8]) -> bool {
+    (HEADER..=GREATEST).contains(&block.len())
+}
+
+/// Whether a record of the kind may have these counts: some letter, and a denial in P only.
+fn fair(kind: usize, counts: &Counts) -> bool {
+    counts.iter().any(|&n| n > 0) && (kind == P || counts[RIGHTS..].iter().all(|&n| n == 0))
 }
 
 impl Index {
@@ -65,7 +101,7 @@ impl Index {
 
     /// The block's records, or the number that refuses it: 1 or 2.
     pub fn decode(block: &[u8]) -> Result<Index, u32> {
-        if block.len() < HEADER || block.len() > GREATEST {
+        if !sized(block) {
             return Err(1);
         }
         let mut index = Index::empty(block.len());
@@ -77,16 +113,11 @@ impl Index {
                     return Err(2);
                 }
                 let name = (word(block, at), word(block, at + 2));
-                let mut counts: Counts = [0; 8];
+                let mut counts = Counts::default();
                 for (k, count) in counts.iter_mut().enumerate() {
-                    *count = word(block, at + 4 + 2 * k);
+                    *count = word(block, at + COUNTS + 2 * k);
                 }
-                let fair = name.0 < 1024
-                    && name.1 < 1024
-                    && last < Some(name)
-                    && counts != [0; 8]
-                    && (kind == 1 || counts[4..] == [0; 4]);
-                if !fair {
+                if name.0 >= NAMES || name.1 >= NAMES || last >= Some(name) || !fair(kind, &counts) {
                     return Err(2);
                 }
                 last = Some(name);
@@ -104,7 +135,7 @@ impl Index {
 
 /// make: the number, and the block then.
 pub fn make(block: &[u8]) -> (u32, Vec<u8>) {
-    if block.len() < HEADER || block.len() > GREATEST {
+    if !sized(block) {
         return (1, block.to_vec());
     }
     (0, Index::empty(block.len()).encode())
@@ -120,48 +151,52 @@ fn half(bytes: &[u8]) -> Half {
 }
 
 fn letters(mask: u8) -> impl Iterator<Item = usize> {
-    (0..8).filter(move |k| mask >> k & 1 == 1)
+    (0..LETTERS.len()).filter(move |k| mask >> k & 1 == 1)
+}
+
+/// The part of a kind's number.
+fn part_of(kind: u64) -> Result<usize, u32> {
+    (1..=KINDS as u64).contains(&kind).then(|| kind as usize - 1).ok_or(3)
 }
 
 fn apply(index: &mut Index, message: &[u8]) -> Result<(), u32> {
-    if message.len() != 12 {
+    if message.len() != MESSAGE {
         return Err(3);
     }
-    let (kind, flags) = (message[0], message[1]);
-    if !(1..=3).contains(&kind) || !(1..=3).contains(&flags) {
+    let (kind, flags) = (part_of(message[0].into())?, message[1]);
+    if flags == 0 || flags >> 2 != 0 {
         return Err(3);
     }
     let mut halves = [None, None];
-    for (side, slot) in halves.iter_mut().enumerate() {
-        let bytes = &message[2 + 5 * side..7 + 5 * side];
+    for (side, (slot, bytes)) in halves.iter_mut().zip(message[HALVES..].chunks(HALF)).enumerate() {
         if flags >> side & 1 == 1 {
             *slot = Some(half(bytes));
-        } else if bytes != [0; 5] {
+        } else if bytes != [0; HALF] {
             return Err(3);
         }
     }
     let present = || halves.iter().flatten();
-    if present().any(|h| h.name.0 > 1023 || h.name.1 > 1023) {
+    if present().any(|h| h.name.0 >= NAMES || h.name.1 >= NAMES) {
         return Err(4);
     }
-    if present().any(|h| h.mask == 0 || (kind != 2 && h.mask > 15)) {
+    if present().any(|h| h.mask == 0 || (kind != P && u64::from(h.mask) > ALL)) {
         return Err(5);
     }
     let room = index.room();
     if let Some(previous) = &halves[0] {
-        let part = &mut index.parts[kind as usize - 1];
+        let part = &mut index.parts[kind];
         let counts = part.get_mut(&previous.name).ok_or(6u32)?;
         if letters(previous.mask).any(|k| counts[k] == 0) {
             return Err(6);
         }
         letters(previous.mask).for_each(|k| counts[k] -= 1);
-        if *counts == [0; 8] {
+        if *counts == Counts::default() {
             part.remove(&previous.name);
         }
     }
     if let Some(new) = &halves[1] {
         let records = index.records();
-        let part = &mut index.parts[kind as usize - 1];
+        let part = &mut index.parts[kind];
         match part.get_mut(&new.name) {
             Some(counts) => {
                 if letters(new.mask).any(|k| counts[k] == u16::MAX) {
@@ -173,7 +208,7 @@ fn apply(index: &mut Index, message: &[u8]) -> Result<(), u32> {
                 if records == room {
                     return Err(8);
                 }
-                let mut counts = [0; 8];
+                let mut counts = Counts::default();
                 letters(new.mask).for_each(|k| counts[k] = 1);
                 part.insert(new.name, counts);
             }
@@ -192,7 +227,7 @@ pub fn message(block: &[u8], message: &[u8]) -> (u32, Vec<u8>) {
 }
 
 fn carries(counts: &Counts, right: usize) -> bool {
-    counts[right] > 0 && counts[right + 4] == 0
+    counts[right] > 0 && counts[right + RIGHTS] == 0
 }
 
 /// The names that a chain of at most `limit` M records leads to from `start`, each record with the right.
@@ -212,33 +247,41 @@ fn reached(memberships: &Part, start: u16, right: usize, limit: usize) -> BTreeS
 
 /// The filter of an object, if there is one.
 fn filter(index: &Index, object: u16) -> Option<&Counts> {
-    let groups = index.parts[0].range((object, 0)..=(object, u16::MAX)).map(|(&(_, id), _)| id);
+    let groups = index.parts[M].range((object, 0)..=(object, u16::MAX)).map(|(&(_, id), _)| id);
     std::iter::once(object)
         .chain(groups)
-        .find_map(|name| index.parts[2].range((name, 0)..=(name, u16::MAX)).next().map(|(_, c)| c))
+        .find_map(|name| index.parts[F].range((name, 0)..=(name, u16::MAX)).next().map(|(_, c)| c))
+}
+
+/// Whether the object's filter, if there is one, has the right.
+fn passes(index: &Index, object: u16, right: usize) -> bool {
+    filter(index, object).is_none_or(|counts| carries(counts, right))
+}
+
+/// Whether a P record grants the right, over chains of at most `limit` records.
+fn granted(index: &Index, user: u16, object: u16, right: usize, limit: usize) -> bool {
+    let users = reached(&index.parts[M], user, right, limit);
+    let mut objects = reached(&index.parts[M], object, right, limit);
+    objects.insert(0);
+    index.parts[P].iter().any(|(&(g, s), c)| carries(c, right) && objects.contains(&g) && users.contains(&s))
 }
 
 fn holds(index: &Index, user: u16, object: u16, right: usize) -> bool {
-    if let Some(counts) = filter(index, object) {
-        if !carries(counts, right) {
-            return false;
-        }
-    }
-    let users = reached(&index.parts[0], user, right, 32);
-    let mut objects = reached(&index.parts[0], object, right, 32);
-    objects.insert(0);
-    index.parts[1].iter().any(|(&(g, s), c)| carries(c, right) && objects.contains(&g) && users.contains(&s))
+    passes(index, object, right) && granted(index, user, object, right, CHAIN)
+}
+
+/// A name that the caller gave.
+fn name_of(number: u64) -> Result<u16, u32> {
+    (number < NAMES.into()).then_some(number as u16).ok_or(4)
 }
 
 fn question(block: &[u8], user: u64, object: u64, request: u64) -> Result<u8, u32> {
     let index = Index::decode(block)?;
-    if user > 1023 || object > 1023 {
-        return Err(4);
-    }
-    if request == 0 || request > 15 {
+    let (user, object) = (name_of(user)?, name_of(object)?);
+    if request == 0 || request > ALL {
         return Err(5);
     }
-    let held = (0..4).filter(|&right| holds(&index, user as u16, object as u16, right));
+    let held = (0..RIGHTS).filter(|&right| holds(&index, user, object, right));
     Ok(held.map(|right| 1 << right).sum::<u8>() & request as u8)
 }
 
@@ -261,7 +304,7 @@ pub fn may(block: &[u8], user: u64, object: u64, request: u64) -> (u32, u32) {
 /// The text of a set.
 pub fn text(set: &BTreeMap<u16, Counts>) -> Vec<u8> {
     let record = |(id, counts): (&u16, &Counts)| {
-        let pieces = counts.iter().zip(LETTERS).map(|(&n, &letter)| match n {
+        let pieces = counts.iter().zip(LETTERS).map(|(&n, letter)| match n {
             0 => String::new(),
             1 => (letter as char).to_string(),
             n => format!("{}{n}", letter as char),
@@ -277,13 +320,8 @@ fn set_of(part: &Part, key: u16) -> BTreeMap<u16, Counts> {
 
 fn located(block: &[u8], kind: u64, key: u64) -> Result<(Index, usize, u16), u32> {
     let index = Index::decode(block)?;
-    if !(1..=3).contains(&kind) {
-        return Err(3);
-    }
-    if key > 1023 {
-        return Err(4);
-    }
-    Ok((index, kind as usize - 1, key as u16))
+    let kind = part_of(kind)?;
+    Ok((index, kind, name_of(key)?))
 }
 
 /// write: the number, the length of the text, and the output buffer then.
@@ -312,8 +350,8 @@ pub fn parse(text: &[u8], kind: usize) -> Option<BTreeMap<u16, Counts>> {
     let words: Vec<&str> = std::str::from_utf8(text).ok()?.split(';').collect();
     for pair in words.chunks(2) {
         let [id, pieces] = pair else { return None };
-        let id: u16 = id.parse().ok().filter(|&id| id < 1024)?;
-        let mut counts: Counts = [0; 8];
+        let id: u16 = id.parse().ok().filter(|&id| id < NAMES)?;
+        let mut counts = Counts::default();
         let mut rest = *pieces;
         while let Some(letter) = rest.bytes().next() {
             let k = LETTERS.iter().position(|&l| l == letter)?;
@@ -321,7 +359,7 @@ pub fn parse(text: &[u8], kind: usize) -> Option<BTreeMap<u16, Counts>> {
             counts[k] = if digits == 0 { 1 } else { rest[1..=digits].parse().ok()? };
             rest = &rest[1 + digits..];
         }
-        if counts == [0; 8] || (kind != 1 && counts[4..] != [0; 4]) || set.insert(id, counts).is_some() {
+        if !fair(kind, &counts) || set.insert(id, counts).is_some() {
             return None;
         }
     }
@@ -347,9 +385,9 @@ pub fn read(block: &[u8], kind: u64, key: u64, text: &[u8]) -> (u32, u32, Vec<u8
 
 /// What the program `standing` prints for an input.
 pub fn standing(input: &[u8]) -> Vec<u8> {
-    let mut block = make(&vec![0; GREATEST]).1;
+    let mut block = make(&[0; GREATEST]).1;
     let mut printed = Vec::new();
-    for (n, piece) in input.chunks(12).enumerate() {
+    for (n, piece) in input.chunks(MESSAGE).enumerate() {
         let (number, after) = message(&block, piece);
         block = after;
         if number != 0 {

@@ -1,0 +1,105 @@
+//! The functions of an archive on slices: of the archive that is linked, or of another one that is loaded as a shared object.
+
+use anaqsiro::raw;
+use second::drive::Library;
+use std::ffi::{c_char, c_int, c_void, CStr, CString};
+use std::mem::transmute;
+
+extern "C" {
+    fn dlopen(name: *const c_char, how: c_int) -> *mut c_void;
+    fn dlsym(object: *mut c_void, name: *const c_char) -> *const c_void;
+    fn dlerror() -> *const c_char;
+}
+
+/// Bind every name when the object is opened.
+const NOW: c_int = 2;
+
+/// Opens a shared object for good.
+fn open(path: &str) -> Result<*mut c_void, String> {
+    let path = CString::new(path).map_err(|_| "a path with a zero byte")?;
+    // SAFETY: the path is a string of C, and so is what the loader says after a failure. An archive of ours has no code that
+    // runs when it is opened.
+    unsafe {
+        let object = dlopen(path.as_ptr(), NOW);
+        if object.is_null() {
+            return Err(CStr::from_ptr(dlerror()).to_string_lossy().into_owned());
+        }
+        Ok(object)
+    }
+}
+
+/// Stands for a function that an archive from before does not have yet.
+extern "C" fn absent() -> u64 {
+    panic!("the archive that was loaded does not have this function")
+}
+
+/// A function of a shared object.
+fn function(object: *mut c_void, name: &str) -> *const c_void {
+    let name = CString::new(name).expect("no zero byte");
+    // SAFETY: the object is open, and the name is a string of C.
+    let found = unsafe { dlsym(object, name.as_ptr()) };
+    if found.is_null() {
+        absent as *const c_void
+    } else {
+        found
+    }
+}
+
+macro_rules! functions {
+    ($($field:ident = $name:ident: $kind:ty,)*) => {
+        /// The functions of an archive.
+        pub struct Archive {
+            $($field: $kind),*
+        }
+
+        impl Archive {
+            /// Those of the archive that is linked.
+            pub fn linked() -> Archive {
+                Archive { $($field: raw::$name),* }
+            }
+
+            /// Those of an archive that was made a shared object.
+            pub fn loaded(path: &str) -> Result<Archive, String> {
+                let object = open(path)?;
+                // SAFETY: the functions of these names have these types.
+                Ok(unsafe { Archive { $($field: transmute::<*const c_void, $kind>(function(object, stringify!($name)))),* } })
+            }
+        }
+    };
+}
+
+functions! {
+    make = anaqsiro_make: unsafe extern "C" fn(*mut u8, usize) -> u64,
+    message = anaqsiro_message: unsafe extern "C" fn(*mut u8, usize, *const u8, usize) -> u64,
+    rights = anaqsiro_rights: unsafe extern "C" fn(*const u8, usize, u64, u64, u64) -> u64,
+    may = anaqsiro_may: unsafe extern "C" fn(*const u8, usize, u64, u64, u64) -> u64,
+    write = anaqsiro_write: unsafe extern "C" fn(*const u8, usize, u64, u64, *mut u8, usize) -> u64,
+    read = anaqsiro_read: unsafe extern "C" fn(*mut u8, usize, u64, u64, *const u8, usize) -> u64,
+}
+
+// SAFETY: each pointer and length below are those of one slice, borrowed for the call.
+impl Library for Archive {
+    fn make(&self, block: &mut [u8]) -> u64 {
+        unsafe { (self.make)(block.as_mut_ptr(), block.len()) }
+    }
+
+    fn message(&self, block: &mut [u8], message: &[u8]) -> u64 {
+        unsafe { (self.message)(block.as_mut_ptr(), block.len(), message.as_ptr(), message.len()) }
+    }
+
+    fn rights(&self, block: &[u8], user: u64, object: u64, request: u64) -> u64 {
+        unsafe { (self.rights)(block.as_ptr(), block.len(), user, object, request) }
+    }
+
+    fn may(&self, block: &[u8], user: u64, object: u64, request: u64) -> u64 {
+        unsafe { (self.may)(block.as_ptr(), block.len(), user, object, request) }
+    }
+
+    fn write(&self, block: &[u8], kind: u64, key: u64, out: &mut [u8]) -> u64 {
+        unsafe { (self.write)(block.as_ptr(), block.len(), kind, key, out.as_mut_ptr(), out.len()) }
+    }
+
+    fn read(&self, block: &mut [u8], kind: u64, key: u64, text: &[u8]) -> u64 {
+        unsafe { (self.read)(block.as_mut_ptr(), block.len(), kind, key, text.as_ptr(), text.len()) }
+    }
+}
