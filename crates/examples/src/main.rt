@@ -1,4 +1,7 @@
 // The examples of the rules that are run: each line says what was asked, and what came back.
+use index::GREATEST;
+use index::HEADER;
+use index::RECORD;
 use rights::Answer;
 use rights::Rights;
 ghost use Prim.Native.Nat.{_<_};
@@ -10,26 +13,32 @@ fn say(words: &[u8], n: u64) -> bool {
     io::write_all(1, b"\n")
 }
 
-// A new half alone goes to the block.
-fn give(block: &mut [u8], kind: u8, key: u16, id: u16, mask: u8) -> u8 {
+// A line of words alone.
+fn tell(words: &[u8]) -> bool {
+    io::write_all(1, words);
+    io::write_all(1, b"\n")
+}
+
+// A half: key and id, low byte first, and mask.
+fn half(key: u16, id: u16, mask: u8) -> [u8; 5] {
     let key_low = (key % 256) as u8;
     let key_high = (key / 256 % 256) as u8;
     let id_low = (id % 256) as u8;
     let id_high = (id / 256 % 256) as u8;
-    let message = [
-        kind,
-        2,
-        0,
-        0,
-        0,
-        0,
-        0,
-        key_low,
-        key_high,
-        id_low,
-        id_high,
-        mask,
-    ];
+    [key_low, key_high, id_low, id_high, mask]
+}
+
+// A new half alone goes to the block.
+fn give(block: &mut [u8], kind: u8, key: u16, id: u16, mask: u8) -> u8 {
+    let h = half(key, id, mask);
+    let message = [kind, 2, 0, 0, 0, 0, 0, h[0], h[1], h[2], h[3], h[4]];
+    index::message(block, &message)
+}
+
+// A previous half alone goes to the block.
+fn withdraw(block: &mut [u8], kind: u8, key: u16, id: u16, mask: u8) -> u8 {
+    let h = half(key, id, mask);
+    let message = [kind, 1, h[0], h[1], h[2], h[3], h[4], 0, 0, 0, 0, 0];
     index::message(block, &message)
 }
 
@@ -50,6 +59,31 @@ fn short(block: &[u8], user: u64, object: u64, request: u64) -> u64 {
     }
 }
 
+// How often the first record of the block counts U, and whether 1 may update 9.
+fn planner(block: &[u8]) -> bool {
+    say(
+        b"  appointments counted: ",
+        index::count_of(block, 0, 2) as u64,
+    );
+    say(b"  may update: ", short(block, 1, 9, 4))
+}
+
+// The mill's own case, in a block with room for one record.
+fn mill() -> bool {
+    let mut block = [0u8; HEADER + RECORD];
+    index::make(&mut block);
+    tell(b"two appointments give the planner, 1, the right to update the request, 9");
+    give(&mut block, 2, 9, 1, 4);
+    give(&mut block, 2, 9, 1, 4);
+    planner(&block);
+    tell(b"the first ends");
+    withdraw(&mut block, 2, 9, 1, 4);
+    planner(&block);
+    tell(b"the second ends");
+    withdraw(&mut block, 2, 9, 1, 4);
+    planner(&block)
+}
+
 // So many M records in a chain from 100 on, each with R.
 fn chain(block: &mut [u8], long: u16)
     requires { ⌜ long < 900 ⌝ }
@@ -65,7 +99,7 @@ fn chain(block: &mut [u8], long: u16)
 fn chains(long: u16) -> bool
     requires { ⌜ long < 900 ⌝ }
 {
-    let mut block = [0u8; 1016];
+    let mut block = [0u8; HEADER + 50 * RECORD];
     index::make(&mut block);
     chain(&mut block, long);
     let mut other = block;
@@ -80,10 +114,10 @@ fn chains(long: u16) -> bool
 
 // Blocks at the ends of the range of lengths.
 fn lengths() -> bool {
-    let mut short_block = [7u8; 15];
-    let mut long_block = [7u8; 40977];
-    let mut least = [7u8; 16];
-    let mut greatest = [7u8; 40976];
+    let mut short_block = [7u8; HEADER - 1];
+    let mut long_block = [7u8; GREATEST + 1];
+    let mut least = [7u8; HEADER];
+    let mut greatest = [7u8; GREATEST];
     say(b"make, 15 bytes: ", index::make(&mut short_block) as u64);
     say(b"make, 40,977 bytes: ", index::make(&mut long_block) as u64);
     say(
@@ -99,7 +133,7 @@ fn lengths() -> bool {
 
 // Name 0 on either side, and numbers that would narrow to it.
 fn zero() -> bool {
-    let mut block = [0u8; 216];
+    let mut block = [0u8; HEADER + 10 * RECORD];
     index::make(&mut block);
     give(&mut block, 1, 1, 1, 2);
     give(&mut block, 2, 0, 1, 2);
@@ -114,6 +148,7 @@ fn zero() -> bool {
 }
 
 fn main() {
+    mill();
     chains(31);
     chains(32);
     chains(33);

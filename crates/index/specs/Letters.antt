@@ -18,7 +18,8 @@ rightCount = 4
 abbrev pub allRights : ℕ
 allRights = 15
 
--- "letter": the bytes of M R U P m r u p.
+-- "letter": the byte of each.
+--         M    R    U    P    m     r     u     p
 unfoldable pub letters : List ℕ
 letters = 77 ∷ 82 ∷ 85 ∷ 80 ∷ 109 ∷ 114 ∷ 117 ∷ 112 ∷ []
 

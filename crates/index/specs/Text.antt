@@ -16,7 +16,7 @@ pub record Entry : Type 0 where
 
 -- ---- what a set is written as
 
--- "in decimal without leading zeros", where n has at most d digits.
+-- "in decimal without leading zeros", where n has at most d digits: the byte of the digit 0 is 48.
 unfoldable pub digitsOf : ℕ → ℕ → List ℕ
 digitsOf ℕ.zero n = []
 digitsOf (suc d) n = cond (ltb n 10) ((48 + n) ∷ []) (digitsOf d (n / 10) ++ ((48 + n % 10) ∷ []))
@@ -37,7 +37,7 @@ piecesOf [] cs = []
 piecesOf (l ∷ ls) [] = []
 piecesOf (l ∷ ls) (c ∷ cs) = pieceOf l c ++ piecesOf ls cs
 
--- "id in decimal without leading zeros, `;`, then each letter"
+-- "id in decimal without leading zeros, `;`, then each letter": the byte of `;` is 59.
 unfoldable pub entryText : Entry → List ℕ
 entryText e = decimal (e .id) ++ (59 ∷ piecesOf letters (e .counts))
 

@@ -49,7 +49,8 @@ granted mask = block [] (once 9 1 mask ∷ []) [] 0
 abbrev pub twoRecords : List ℕ
 twoRecords = block [] (once 7 3 7 ∷ record { key = 7; id = 12; counts = 1 ∷ 1 ∷ 2 ∷ zeros 5 } ∷ []) [] 0
 
--- `3;MRU;12;MRU2`
+-- "`3;MRU;12;MRU2`"
+--         3    ;    M    R    U    ;    1    2    ;    M    R    U    2
 abbrev pub twoText : List ℕ
 twoText = 51 ∷ 59 ∷ 77 ∷ 82 ∷ 85 ∷ 59 ∷ 49 ∷ 50 ∷ 59 ∷ 77 ∷ 82 ∷ 85 ∷ 50 ∷ []
 
@@ -64,7 +65,8 @@ masks =
 abbrev pub texts : List Case
 texts =
     Case.text twoRecords 2 7 twoText 2
-    -- "Texts `3;M1`, `03;M`, `3;RM`, `3;M;`, `3;M0`, `3;`: 9 each. Empty text: accepted, 0 records."
+    -- "Texts `3;M1`, `03;M`, `3;RM`, `3;M;`, `3;M0`, `3;`: 9 each. Empty text: accepted, 0 records." The byte of 0 is 48, of 1 49,
+    -- of 3 51, of `;` 59, of M 77 and of R 82.
     ∷ Case.wrong (51 ∷ 59 ∷ 77 ∷ 49 ∷ [])
     ∷ Case.wrong (48 ∷ 51 ∷ 59 ∷ 77 ∷ [])
     ∷ Case.wrong (51 ∷ 59 ∷ 82 ∷ 77 ∷ [])
