@@ -19,7 +19,7 @@ abbrev pub allRights : ℕ
 allRights = 15
 
 -- "letter": the byte of each.
---         M    R    U    P    m     r     u     p
+--        M    R    U    P    m     r     u     p
 unfoldable pub letters : List ℕ
 letters = 77 ∷ 82 ∷ 85 ∷ 80 ∷ 109 ∷ 114 ∷ 117 ∷ 112 ∷ []
 

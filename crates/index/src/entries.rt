@@ -3,7 +3,7 @@
 use crate::GREATEST_NAME;
 use crate::Kind;
 use crate::LETTER_COUNT;
-use crate::letters::letter_at;
+use crate::letters::letter_bytes;
 use crate::letters::letters_of;
 use crate::reading::Cursor;
 use crate::reading::Piece;
@@ -23,9 +23,9 @@ ghost use Rattle.index.specs.Reading.{readLetter, readCounts, total, rea
 ghost use Rattle.index.specs.Reading.Parsed.{got};
 ghost use Rattle.index.specs.Pieces.{SeesNumber, SeesLetters, SeesEntry, rest};
 
-// The count of letter k at the cursor, of which the first `may` may stand there: 0 where the letter does not.
-fn counted(text: &[u8], c: Cursor, may: usize, k: usize) -> Piece
-    requires { ⌜ k < letterCount ⌝ }
+// The count of letter k, whose byte is given, at the cursor; 0 where it does not stand there. The first `may` letters may.
+fn counted(text: &[u8], c: Cursor, may: usize, k: usize, byte: u8) -> Piece
+    requires { ⌜ byte ≡ getD letters k 0 ⌝ }
     ensures { λ r. ⌜ SeesNumber (now (text .entry)) r (readLetter (ltb 0 (may - k)) (getD letters k 0) (drop (c .at) (now (text .entry)))) ⌝ }
 {
     let at = c.at;
@@ -35,8 +35,7 @@ fn counted(text: &[u8], c: Cursor, may: usize, k: usize) -> Piece
     if may <= k {
         return Piece::Number(0, c);
     }
-    let l = letter_at(k);
-    if text[at] == l.byte {
+    if text[at] == byte {
         count(text, Cursor { at: at + 1 })
     } else {
         Piece::Number(0, c)
@@ -50,10 +49,11 @@ fn counts(text: &[u8], c: Cursor, kind: Kind, out: &mut [usize; LETTER_COUNT]) -
     ensures { λ r. ⌜ SeesLetters (now (text .entry)) r (now (out .exit)) (readCounts (lettersOf kind) letters (drop (c .at) (now (text .entry)))) ⌝ }
 {
     let may = letters_of(kind);
+    let bytes = letter_bytes();
     let mut here = c;
     let mut k = 0;
     while k < LETTER_COUNT {
-        let piece = counted(text, here, may, k);
+        let piece = counted(text, here, may, k, bytes[k]);
         let Piece::Number(n, next) = piece else {
             return piece;
         };

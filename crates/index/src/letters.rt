@@ -4,8 +4,8 @@ use crate::Kind;
 use crate::LETTER_COUNT;
 use crate::RIGHTS;
 ghost use mathlib.Core.Path.{_≡_};
-ghost use Prim.Native.Nat.{_<_, _^_};
-ghost use lib.ListN.{getD};
+ghost use Prim.Native.Nat.{ℕ, _<_, _^_};
+ghost use lib.ListN.{length, getD};
 ghost use Rattle.index.specs.Letters.{letterCount, letters, lettersOf};
 
 // A letter of a set's text, with the mask of what it stands for.
@@ -55,6 +55,20 @@ pub(crate) fn letter_at(k: usize) -> Letter
     ensures { λ r. ⌜ (r .mask ≡ 2 ^ k) × (r .byte ≡ getD letters k 0) ⌝ }
 {
     LETTERS[k]
+}
+
+// The bytes of all letters. A reader takes them from the table once, since taking an entry copies the table.
+pub(crate) fn letter_bytes() -> [u8; LETTER_COUNT]
+    ensures { λ r. ⌜ (length r ≡ letterCount) × ((k : ℕ) → k < letterCount → getD r k 0 ≡ getD letters k 0) ⌝ }
+{
+    let mut bytes = [0u8; LETTER_COUNT];
+    let mut k = 0;
+    while k < LETTER_COUNT {
+        let letter = letter_at(k);
+        bytes[k] = letter.byte;
+        k += 1;
+    }
+    bytes
 }
 
 // How many of the letters a record of the kind may have.

@@ -50,7 +50,7 @@ abbrev pub twoRecords : List ℕ
 twoRecords = block [] (once 7 3 7 ∷ record { key = 7; id = 12; counts = 1 ∷ 1 ∷ 2 ∷ zeros 5 } ∷ []) [] 0
 
 -- "`3;MRU;12;MRU2`"
---         3    ;    M    R    U    ;    1    2    ;    M    R    U    2
+--        3    ;    M    R    U    ;    1    2    ;    M    R    U    2
 abbrev pub twoText : List ℕ
 twoText = 51 ∷ 59 ∷ 77 ∷ 82 ∷ 85 ∷ 59 ∷ 49 ∷ 50 ∷ 59 ∷ 77 ∷ 82 ∷ 85 ∷ 50 ∷ []
 

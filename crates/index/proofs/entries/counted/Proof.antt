@@ -9,8 +9,7 @@ use Rattle.index.proofs.entries.counted.Statement.{statement}
 use Rattle.index.proofs.entries.counted.Tie as tie
 
 returns : tie.Need-returns
-returns c =
-    let a = c .before .before .args in letter-end (now (a .text)) (a .c .at) (a .may - a .k) _ (c .if1 .taken)
+returns c = let a = c .before .before .args in letter-end (now (a .text)) (a .c .at) (a .may - a .k) _ (c .if1 .taken)
 
 returns-2 : tie.Need-returns-2
 returns-2 c =
@@ -19,14 +18,16 @@ returns-2 c =
 
 returns-3 : tie.Need-returns-3
 returns-3 c =
-    let a = c .before .before .before .before .before .before .before .before .args in
-    rw (letter-there (now (a .text)) (a .c .at) (a .may - a .k) _ (c .before .before .before .before .before .before .if1 .left) (omega (arith, c .before .before .before .before .before .if2 .left)) (c .before .if3 .taken ∙ c .before .before .before .before .letter-at .ensures .1))
+    let s = c .before .before .before .before .before .before in
+    let a = s .args in
+    rw (letter-there (now (a .text)) (a .c .at) (a .may - a .k) _ (c .before .before .before .before .if1 .left) (omega (arith, c .before .before .before .if2 .left)) (c .before .if3 .taken ∙ s .pre))
     (c .count .ensures)
 
 returns-4 : tie.Need-returns-4
 returns-4 c =
-    let a = c .before .before .before .before .before .before .before .args in
-    letter-none (now (a .text)) (a .c .at) (a .may - a .k) _ (c .before .before .before .before .before .if1 .left) (omega (arith, c .before .before .before .before .if2 .left)) (λ e. c .if3 .left (e ∙ sym (c .before .before .before .letter-at .ensures .1)))
+    let s = c .before .before .before .before .before in
+    let a = s .args in
+    letter-none (now (a .text)) (a .c .at) (a .may - a .k) _ (c .before .before .before .if1 .left) (omega (arith, c .before .before .if2 .left)) (λ e. c .if3 .left (e ∙ sym (s .pre)))
 
 pub counted-spec : {M : Type 1} → statement M
 counted-spec =
@@ -34,7 +35,6 @@ counted-spec =
     (tie.spec
     returns
     returns-2
-    (λ c κs. search needs)
     (λ c. search needs)
     (λ c. search needs)
     (λ c κs. search needs)
