@@ -23,13 +23,12 @@ fn blank(m: &[u8], i: usize) -> bool
     ensures { λ r. ⌜ Says (Blank (now (m .entry)) i) r ⌝ }
 {
     let mut j = i;
+    let mut seen = 0u8;
     while j < i + 5 {
-        if m[j] != 0 {
-            return false;
-        }
+        seen |= m[j];
         j += 1;
     }
-    true
+    seen == 0
 }
 
 // The message is 12 bytes; kind, flags and an absent half are right.
