@@ -1,12 +1,12 @@
 -- From the rights reached, the filter and the request to the answers.
-use Prim.Native.Nat.{ℕ, suc, _<_, _≤_}
+use Prim.Native.Nat.{ℕ, suc, _^_, _<_, _≤_}
 use mathlib.Core.Path.{_≡_, refl}
 use mathlib.Core.List.{List, [], _∷_}
 use mathlib.Core.Logic.{_↔_}
 use native.Mathlib.Omega.{arith}
-use Rattle.index.specs.Letters.{In}
+use Rattle.index.specs.Letters.{rightCount, allRights, In}
 use Rattle.index.specs.Numbers.{First, Answers}
-use Rattle.index.specs.Block.{Sized, Good}
+use Rattle.index.specs.Block.{Sized, Good, IsName}
 use Rattle.index.specs.Calls.{blockNeeds}
 use Rattle.index.specs.Doors.{Mask}
 use Rattle.index.proofs.Firsts.{all-hold, refused-first, passed-first}
@@ -33,10 +33,10 @@ positive (suc m) ne = omega arith
 pub record Asked (b : List ℕ) (u o request : ℕ) : Type 0 where
   pub sized : Sized b
   pub good : Good b
-  pub user : u < 1024
-  pub object : o < 1024
+  pub user : IsName u
+  pub object : IsName o
   pub some : 1 ≤ request
-  pub small : request < 16
+  pub small : request < 2 ^ rightCount
 
 module _ (b : List ℕ) (u o request : ℕ) where
   pub asked : (n : ℕ) → n ≡ 0 → Answers (questionNeeds b u o request) n → Asked b u o request
@@ -54,7 +54,7 @@ module _ (b : List ℕ) (u o request : ℕ) where
 
   -- The block's own requirements come first, and then those of the question.
   abbrev pub own : List (ℕ × Type 0)
-  own = (4, (u < 1024) × (o < 1024)) ∷ (5, (1 ≤ request) × (request ≤ 15)) ∷ []
+  own = (4, IsName u × IsName o) ∷ (5, (1 ≤ request) × (request ≤ allRights)) ∷ []
 
   pub refused-block : (n : ℕ) → (n ≡ 0 → ⊥) → Answers (blockNeeds b) n → Answers (questionNeeds b u o request) n
   unfolding questionNeeds
@@ -91,7 +91,7 @@ module _ (b : List ℕ) (u o request : ℕ) where
       ))
 
   -- Every requested right passes the filter and is reached.
-  module _ (small : request < 16) where
+  module _ (small : request < 2 ^ rightCount) where
     pub filtered : {w : ℕ} → Mask w (λ k. Passes b o k × In k request) → HoldsAll b u o request → w ≡ request
     unfolding HoldsAll
     filtered wanted all = mask-covers request small wanted .1 (λ k h i. holds b u o k .1 (all k h i) .1)

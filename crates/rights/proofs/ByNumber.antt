@@ -1,29 +1,30 @@
 -- A record by its kind, key and id, and by its number.
-use Prim.Native.Nat.{ℕ, _+_, _*_, _<_, _≤_}
+use Prim.Native.Nat.{ℕ, _+_, _^_, _<_, _≤_}
 use mathlib.Core.Path.{_≡_, refl, sym, _∙_}
 use mathlib.Core.List.{List}
 use mathlib.Core.Logic.{_↔_, ⊎-elim}
 use native.Mathlib.Omega.{arith}
 use Rattle.index.specs.declared.Kind.{Kind}
-use Rattle.index.specs.Block.{number, records, key, id, Of, count, Good}
+use Rattle.index.specs.Letters.{rightCount}
+use Rattle.index.specs.Block.{IsName, records, Of, place, key, id, Good, count}
 use Rattle.index.specs.Places.{At}
 use Rattle.index.specs.Doors.{NetAt}
+use Rattle.index.proofs.Bytes.{number-small}
 use Rattle.index.proofs.Records.{where-is, count-at, count-none, of-records, no-lower}
 use Rattle.rights.specs.Held.{Is, Net}
 
 -- The end of the parts is a 16-bit number.
-pub few : {b : List ℕ} → Good b → 16 + 20 * records b < 65536
-unfolding number
-few {b} g = omega (arith, g .end-offset, g .bytes 14, g .bytes 15)
+pub few : {b : List ℕ} → Good b → place (records b) < 2 ^ 16
+few {b} g = omega (arith, g .end-offset, number-small b 14 (g .bytes))
 
 pub at-self : {b : List ℕ} {kind : Kind} {i : ℕ} → Of b kind i → At b kind (key b i) (id b i) i
 at-self of = record { of = of; has-key = refl; has-id = refl }
 
 module _ {b : List ℕ} (g : Good b) (kind : Kind) where
-  pub key-name : {i : ℕ} → Of b kind i → key b i < 1024
+  pub key-name : {i : ℕ} → Of b kind i → IsName (key b i)
   key-name {i} of = g .keys i (of-records kind b i of)
 
-  pub id-name : {i : ℕ} → Of b kind i → id b i < 1024
+  pub id-name : {i : ℕ} → Of b kind i → IsName (id b i)
   id-name {i} of = g .ids i (of-records kind b i of)
 
   pub keys-rise : (i j : ℕ) → i ≤ j → Of b kind i → Of b kind j → key b i ≤ key b j
@@ -47,11 +48,11 @@ module _ {b : List ℕ} (g : Good b) (kind : Kind) where
         let c = g .counted i (of-records kind b i (a .of)) in
         (c .0, c .1, rw (count-at g kind x y i (c .0) a) (c .2))
 
-    pub net-at : {i : ℕ} (k : ℕ) → k < 4 → At b kind x y i → NetAt b i k ↔ Net b kind x y k
+    pub net-at : {i : ℕ} (k : ℕ) → k < rightCount → At b kind x y i → NetAt b i k ↔ Net b kind x y k
     unfolding Net
     net-at {i} k h a =
         let big = count-at g kind x y i k a in
-        let small = count-at g kind x y i (k + 4) a in
+        let small = count-at g kind x y i (k + rightCount) a in
         ((λ n. (h, rw big (n .0), small ∙ n .1)), (λ n. (rw big at (n .1), sym small ∙ n .2)))
 
     pub net-where : (k : ℕ) → Net b kind x y k → (i : ℕ) × At b kind x y i × NetAt b i k

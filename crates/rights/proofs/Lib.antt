@@ -3,7 +3,6 @@ mod ByNumber
 mod Filling
 mod Rounding
 pub mod MarksAreChains
-pub mod MarksNeverShrink
 mod Looking
 mod Filters
 mod Granting

@@ -7,18 +7,18 @@ use native.Mathlib.Omega.{arith}
 use Rattle.index.specs.declared.Kind.{Kind}
 use Rattle.index.specs.Block.{from, size, Of, key, Good}
 use Rattle.index.proofs.Range.{lt-or-le}
-use Rattle.rights.specs.Lookup.{Lowest}
+use Rattle.rights.specs.Lookup.{StartsAt}
 use Rattle.rights.proofs.ByNumber.{keys-rise}
 
 -- Of the records from lo up to hi, those below low have keys below x, and those from high on have not.
-pub record Between (b : List ℕ) (lo hi x low high : ℕ) : Type 0 where
+pub record Narrowed (b : List ℕ) (lo hi x low high : ℕ) : Type 0 where
   pub left : lo ≤ low
   pub right : high ≤ hi
   pub below : (j : ℕ) → lo ≤ j → j < low → key b j < x
   pub above : (j : ℕ) → high ≤ j → j < hi → x ≤ key b j
 
-pub between-all : (b : List ℕ) (lo hi x : ℕ) → Between b lo hi x lo hi
-between-all b lo hi x = record {
+pub narrowed-none : (b : List ℕ) (lo hi x : ℕ) → Narrowed b lo hi x lo hi
+narrowed-none b lo hi x = record {
   left = omega arith;
   right = omega arith;
   below = λ j l h. absurd (omega arith);
@@ -26,13 +26,13 @@ between-all b lo hi x = record {
 }
 
 module _ {b : List ℕ} (kind : Kind) (lo hi x low high : ℕ) (first : lo ≡ from b kind) (end : hi ≡ from b kind + size b kind)
-    (inv : Between b lo hi x low high) where
+    (inv : Narrowed b lo hi x low high) where
   module _ (g : Good b) (middle : ℕ) (l : low ≤ middle) (h : middle < high) where
     of : Of b kind middle
     of = omega arith
 
     -- The lower half goes, or the upper.
-    pub halve : (key b middle < x → Between b lo hi x (middle + 1) high) × (x ≤ key b middle → Between b lo hi x low middle)
+    pub halve : (key b middle < x → Narrowed b lo hi x (middle + 1) high) × (x ≤ key b middle → Narrowed b lo hi x low middle)
     halve = (
       (λ k. record {
         left = omega arith;
@@ -48,7 +48,7 @@ module _ {b : List ℕ} (kind : Kind) (lo hi x low high : ℕ) (first : lo ≡ f
       }),
     )
 
-  pub met : low ≤ high → high ≤ low → Lowest b kind x low
+  pub met : low ≤ high → high ≤ low → StartsAt b kind x low
   met l h = record {
     low = omega arith;
     high = omega arith;
@@ -57,7 +57,7 @@ module _ {b : List ℕ} (kind : Kind) (lo hi x low high : ℕ) (first : lo ≡ f
   }
 
 -- The records of the name are those between the first not below it and the first above it.
-pub keyed : {b : List ℕ} (kind : Kind) (x i e : ℕ) → Lowest b kind x i → Lowest b kind (x + 1) e
+pub keyed : {b : List ℕ} (kind : Kind) (x i e : ℕ) → StartsAt b kind x i → StartsAt b kind (x + 1) e
     → (j : ℕ) → ((i ≤ j) × (j < e)) ↔ (Of b kind j × (key b j ≡ x))
 keyed {b} kind x i e low next j = (
   (λ p.

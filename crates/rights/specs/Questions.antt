@@ -3,9 +3,10 @@ use Prim.Native.Nat.{ℕ, _<_, _≤_}
 use mathlib.Core.Path.{_≡_}
 use mathlib.Core.List.{List, [], _∷_, _++_}
 use mathlib.Core.Logic.{_↔_}
-use Rattle.index.specs.Letters.{In}
+use Rattle.index.specs.Letters.{rightCount, allRights, In}
 use Rattle.index.specs.Numbers.{First}
 use Rattle.index.specs.Block.{IsName}
+use Rattle.index.specs.Doors.{Mask}
 use Rattle.index.specs.Calls.{blockNeeds}
 use Rattle.rights.specs.declared.Rights.{Rights}
 use Rattle.rights.specs.declared.Rights.the-variants as rights
@@ -16,11 +17,11 @@ use Rattle.rights.specs.Held.{Holds}
 -- 1 and 2 of the block; 4: "a name above 1023"; 5: "request 0 or above 15".
 unfoldable pub questionNeeds : List ℕ → ℕ → ℕ → ℕ → List (ℕ × Type 0)
 questionNeeds b u o request =
-    blockNeeds b ++ ((4, IsName u × IsName o) ∷ (5, (1 ≤ request) × (request ≤ 15)) ∷ [])
+    blockNeeds b ++ ((4, IsName u × IsName o) ∷ (5, (1 ≤ request) × (request ≤ allRights)) ∷ [])
 
 -- "the rights held, limited to the rights requested"
 unfoldable pub Limited : List ℕ → ℕ → ℕ → ℕ → ℕ → Type 0
-Limited b u o request mask = (mask < 16) × ((k : ℕ) → k < 4 → In k mask ↔ (Holds b u o k × In k request))
+Limited b u o request mask = Mask mask (λ k. Holds b u o k × In k request)
 
 -- The full question: the number, and the rights.
 unfoldable pub Full : List ℕ → ℕ → ℕ → ℕ → (ℕ × ℕ) → Type 0
@@ -29,7 +30,7 @@ Full b u o request a =
 
 -- "every requested right is held"
 unfoldable pub HoldsAll : List ℕ → ℕ → ℕ → ℕ → Type 0
-HoldsAll b u o request = (k : ℕ) → k < 4 → In k request → Holds b u o k
+HoldsAll b u o request = (k : ℕ) → k < rightCount → In k request → Holds b u o k
 
 -- The short question: the number, and 1 for yes or 0 for no. "yes exactly when every requested right is held"
 unfoldable pub Short : List ℕ → ℕ → ℕ → ℕ → (ℕ × ℕ) → Type 0

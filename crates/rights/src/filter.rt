@@ -1,7 +1,7 @@
 // The filter of an object.
 
-use crate::ALL;
 use crate::lookup::records_of;
+use index::ALL;
 use index::Kind;
 ghost use Rattle.index.specs.Block.{Good, IsName};
 ghost use Rattle.index.specs.Doors.{Mask};

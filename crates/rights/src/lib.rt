@@ -13,8 +13,8 @@ pub use crate::questions::rights_of;
 // A chain has at most so many records.
 pub const LIMIT: usize = 32;
 
-// All four rights.
-pub const ALL: u8 = 15;
+// A block has room for so many records at most.
+pub(crate) const ROOM: usize = (index::GREATEST - index::HEADER) / index::RECORD;
 
 // The answer to the full question: the rights held, or the number of the refusal.
 pub enum Rights {

@@ -3,9 +3,9 @@
 use index::Kind;
 ghost use mathlib.Core.Path.{_≡_};
 ghost use Rattle.index.specs.Block.{Good, IsName, from};
-ghost use Rattle.rights.specs.Lookup.{Lowest, Keyed};
+ghost use Rattle.rights.specs.Lookup.{StartsAt, Keyed};
 
-// The numbers of some records that follow each other: the first, and the one after the last.
+// Numbers that follow each other, of records or of names: the first, and the one after the last.
 pub struct Span {
     pub from: u16,
     pub end: u16,
@@ -27,7 +27,7 @@ fn first_of(block: &[u8], kind: Kind) -> u16
 // The number of the first record of the kind whose key is not below the name.
 fn lowest(block: &[u8], kind: Kind, name: u16) -> u16
     requires { ⌜ Good (now block) ⌝ }
-    ensures { λ r. ⌜ Lowest (now (block .entry)) kind name r ⌝ }
+    ensures { λ r. ⌜ StartsAt (now (block .entry)) kind name r ⌝ }
 {
     let mut low = first_of(block, kind);
     let mut high = low + index::size_of(block, kind);

@@ -4,13 +4,14 @@ use crate::Answer;
 use crate::Rights;
 use crate::filter::filter_of;
 use crate::grants::granted;
+use index::ALL;
 ghost use Rattle.index.specs.Numbers.{Answers};
 ghost use Rattle.rights.specs.Questions.{questionNeeds, Asks, AsksAll};
 
 // The greatest name, and the greatest request, which is for all four rights.
-const LAST_NAME: u64 = 1023;
+const LAST_NAME: u64 = index::GREATEST_NAME as u64;
 
-const ALL_RIGHTS: u64 = 15;
+const ALL_RIGHTS: u64 = ALL as u64;
 
 // The number of the first requirement of a question that does not hold, or 0.
 fn refusal(block: &[u8], user: u64, object: u64, request: u64) -> u8

@@ -1,22 +1,22 @@
 -- `lookup::lowest` meets its contract. The loop's invariant: what is known of the records outside the two bounds.
-use Prim.Native.Nat.{_+_, _-_, _/_, _<_, _≤_}
+use Prim.Native.Nat.{_+_, _-_, _/_, _^_, _<_, _≤_}
 use native.Mathlib.Omega.{arith}
 use borrow.Author.Needs.{needs}
 use Rattle.index.specs.Block.{from, size, records}
 use Rattle.index.proofs.Records.{gap-in}
 use Rattle.rights.proofs.ByNumber.{few}
-use Rattle.rights.proofs.Looking.{Between, between-all, halve, met}
+use Rattle.rights.proofs.Looking.{Narrowed, narrowed-none, halve, met}
 use Rattle.rights.proofs.lookup.lowest.Statement.{statement}
 use Rattle.rights.proofs.lookup.lowest.Tie as tie
 
 abbrev Inv-loop : tie.InvT-loop
-Inv-loop block name low₀ high₀ low high = (low ≤ high) × (high₀ < 65536) × Between block low₀ high₀ name low high
+Inv-loop block name low₀ high₀ low high = (low ≤ high) × (high₀ < 2 ^ 16) × Narrowed block low₀ high₀ name low high
 
 abbrev μ-loop : tie.MeasureT-loop
 μ-loop block name low₀ high₀ low high = high - low
 
 -- The part ends within the records, whose number is small.
-ends : (c : tie.After-size-of Inv-loop μ-loop) → c .before .first-of .result + c .size-of .result < 65536
+ends : (c : tie.After-size-of Inv-loop μ-loop) → c .before .first-of .result + c .size-of .result < 2 ^ 16
 ends c =
     let start = c .before .before .before in
     let b = start .args .block .now in
@@ -37,7 +37,7 @@ loop-holds c =
     let start = c .before .before .before in (
       omega arith,
       ends c,
-      between-all (start .args .block .now) (c .before .first-of .result) (c .before .first-of .result + c .size-of .result) (start .args .name),
+      narrowed-none (start .args .block .now) (c .before .first-of .result) (c .before .first-of .result + c .size-of .result) (start .args .name),
     )
 
 -- One turn, whichever half goes.
@@ -47,7 +47,7 @@ turn : (c : tie.After-key-of Inv-loop μ-loop)
     let lo = c .before .before .before .before .first-of .result in
     let loop = c .before .before .loop in
     let middle = loop .low + (loop .high - loop .low) / 2 in
-    let part = Between b lo (lo + c .before .before .before .size-of .result) name in
+    let part = Narrowed b lo (lo + c .before .before .before .size-of .result) name in
     (c .key-of .result < name → part (middle + 1) (loop .high)) × (name ≤ c .key-of .result → part (loop .low) middle)
 turn c =
     let start = c .before .before .before .before .before .before in

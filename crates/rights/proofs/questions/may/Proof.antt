@@ -12,13 +12,13 @@ use Rattle.rights.proofs.questions.may.Statement.{statement}
 use Rattle.rights.proofs.questions.may.Tie as tie
 
 -- An accepted answer: 1 exactly where every requested right is held.
-abbrev Right : List ℕ → ℕ → ℕ → ℕ → (ℕ × ℕ) → Type 0
-Right b u o q a = (a .0 ≡ 0) × (a .1 < 2) × ((a .1 ≡ 1) ↔ HoldsAll b u o q)
+abbrev Answered : List ℕ → ℕ → ℕ → ℕ → (ℕ × ℕ) → Type 0
+Answered b u o q a = (a .0 ≡ 0) × (a .1 < 2) × ((a .1 ≡ 1) ↔ HoldsAll b u o q)
 
-yes : (b : List ℕ) (u o q : ℕ) → HoldsAll b u o q → Right b u o q (0, 1)
+yes : (b : List ℕ) (u o q : ℕ) → HoldsAll b u o q → Answered b u o q (0, 1)
 yes b u o q h = (refl, omega arith, ((λ e. h), (λ h. refl)))
 
-no : (b : List ℕ) (u o q : ℕ) → (HoldsAll b u o q → ⊥) → Right b u o q (0, 0)
+no : (b : List ℕ) (u o q : ℕ) → (HoldsAll b u o q → ⊥) → Answered b u o q (0, 0)
 no b u o q f = (refl, omega arith, ((λ e. absurd (omega arith)), (λ h. absurd (f h))))
 
 returns : tie.Need-returns
@@ -30,7 +30,7 @@ returns c =
     let o = start .args .object in
     let q = start .args .request in
     let some = positive (c .before .refusal .result) (c .if1 .taken) in
-    (some, refused b u o q (λ n. (n, 0)) (Right b u o q) (c .before .refusal .result) some (c .before .refusal .ensures))
+    (some, refused b u o q (λ n. (n, 0)) (Answered b u o q) (c .before .refusal .result) some (c .before .refusal .ensures))
 
 -- All that the question needs holds.
 module _ (c : tie.Else1) where
@@ -60,7 +60,7 @@ returns-2 c =
     let o = start .args .object in
     let q = start .args .request in
     let a = all (c .before .before) in
-    accepts b u o q (λ n. (n, 0)) (Right b u o q) (0, 0) a
+    accepts b u o q (λ n. (n, 0)) (Answered b u o q) (0, 0) a
     (no b u o q (λ h. c .if2 .taken (filtered b u o q (a .small) (mask-limited (c .before .filter-of .ensures) q) h)))
 
 cast-granted : tie.Need-cast-granted
@@ -90,7 +90,7 @@ returns-3 c =
     let u = start .args .user in
     let o = start .args .object in
     let q = start .args .request in
-    accepts b u o q (λ n. (n, 0)) (Right b u o q) (0, 1) (all (c .before .before .before .before)) (yes b u o q (whole (c .before) .0 (c .if3 .taken)))
+    accepts b u o q (λ n. (n, 0)) (Answered b u o q) (0, 1) (all (c .before .before .before .before)) (yes b u o q (whole (c .before) .0 (c .if3 .taken)))
 
 returns-4 : tie.Need-returns-4
 unfolding AsksAll Short
@@ -100,7 +100,7 @@ returns-4 c =
     let u = start .args .user in
     let o = start .args .object in
     let q = start .args .request in
-    accepts b u o q (λ n. (n, 0)) (Right b u o q) (0, 0) (all (c .before .before .before .before))
+    accepts b u o q (λ n. (n, 0)) (Answered b u o q) (0, 0) (all (c .before .before .before .before))
     (no b u o q (λ h. c .if3 .left (whole (c .before) .1 h)))
 
 pub may-spec : {M : Type 1} → statement M
