@@ -23,12 +23,13 @@ fn blank(m: &[u8], i: usize) -> bool
     ensures { λ r. ⌜ Says (Blank (now (m .entry)) i) r ⌝ }
 {
     let mut j = i;
-    let mut seen = 0u8;
     while j < i + 5 {
-        seen |= m[j];
+        if m[j] != 0 {
+            return false;
+        }
         j += 1;
     }
-    seen == 0
+    true
 }
 
 // The message is 12 bytes; kind, flags and an absent half are right.

@@ -1,42 +1,45 @@
--- Five bytes are zero where their `or` is.
-use Prim.Native.Nat.{ℕ, _+_, _≤_, _-_}
-use mathlib.Core.Path.{_≡_, refl}
-use mathlib.Core.Bool.{Bool, true, false}
-use mathlib.Core.List.{List}
+-- Five bytes are tested, one after the other.
+use Prim.Native.Nat.{ℕ, _+_, _≤_, _<_, _-_}
+use mathlib.Core.Path.{_≡_}
 use native.Mathlib.Omega.{arith}
 use borrow.Author.Needs.{needs}
-use borrow.Author.Tests.{eqb-true, eqb-false}
-use lib.Dec.{eqb}
+use lib.ListN.{getD}
 use Rattle.index.specs.Message.{Blank}
-use Rattle.index.specs.Checks.{Says}
-use Rattle.index.proofs.Checked.{Seen, seen-none, seen-more}
+use Rattle.index.proofs.Range.{from-none, from-more}
 use Rattle.index.proofs.messages.blank.Statement.{statement}
 use Rattle.index.proofs.messages.blank.Tie as tie
 
 abbrev Inv-loop : tie.InvT-loop
-Inv-loop m i j₀ seen₀ j seen = (i ≤ j) × (j ≤ i + 5) × Seen m i j seen
+Inv-loop m i j₀ j = (i ≤ j) × (j ≤ i + 5) × ((n : ℕ) → i ≤ n → n < j → getD m n 0 ≡ 0)
 
 abbrev μ-loop : tie.MeasureT-loop
-μ-loop m i j₀ seen₀ j seen = i + 5 - j
-
-seen-five : (m : List ℕ) (i j seen : ℕ) → j ≤ i + 5 → i + 5 ≤ j → Seen m i j seen → Says (Blank m i) (eqb seen 0)
-unfolding Blank
-seen-five m i j seen l h s = go (eqb seen 0) refl
-  where
-    go : (r : Bool) → eqb seen 0 ≡ r → Says (Blank m i) r
-    go true e = λ n k u. s .zero-then (eqb-true _ _ e) n k (omega arith)
-    go false e = λ z. eqb-false _ _ e (s .only-then (λ n k u. z n k (omega arith)))
+μ-loop m i j₀ j = i + 5 - j
 
 loop-holds : tie.Need-loop-holds Inv-loop μ-loop
-loop-holds c = (search needs, search needs, seen-none _ _)
-
-loop-again : tie.Need-loop-again Inv-loop μ-loop
-loop-again c = (search needs, search needs, seen-more (c .before .before .loop .inv .0) (c .before .before .loop .inv .2))
+loop-holds c = (search needs, search needs, from-none _ _)
 
 returns : tie.Need-returns Inv-loop μ-loop
-returns c = let l = c .before .loop in seen-five _ _ _ _ (l .inv .1) (c .loop-test .left) (l .inv .2)
+unfolding Blank
+returns c = λ z. c .if1 .taken (z (c .before .before .before .loop .j) (search needs) (search needs))
+
+loop-again : tie.Need-loop-again Inv-loop μ-loop
+loop-again c = (search needs, search needs, from-more _ _ _ (c .before .before .before .loop .inv .2) (c .if1 .left))
+
+returns-2 : tie.Need-returns-2 Inv-loop μ-loop
+unfolding Blank
+returns-2 c = λ n l h. c .before .loop .inv .2 n l (omega arith)
 
 pub blank-spec : {M : Type 1} → statement M
 blank-spec =
     tie.close
-    (tie.spec Inv-loop μ-loop loop-holds (λ c. search needs) (λ c. search needs) (λ c. search needs) (λ c. search needs) loop-again returns)
+    (tie.spec
+    Inv-loop
+    μ-loop
+    loop-holds
+    (λ c. search needs)
+    (λ c. search needs)
+    returns
+    (λ c. search needs)
+    (λ c. search needs)
+    loop-again
+    returns-2)
