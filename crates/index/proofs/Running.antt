@@ -20,7 +20,7 @@ use Rattle.index.specs.Edits.Went.{nothing, next}
 use Rattle.index.proofs.Bytes.{count-small}
 use Rattle.index.proofs.Canonical.{canonical}
 use Rattle.index.proofs.HalfLetters.{bit-zero, halfOf, change-own}
-use Rattle.index.proofs.Firsts.{All, first-all, first-sure, first-passed, first-refused, refuses}
+use Rattle.index.proofs.Firsts.{All, first-map, first-all, first-sure, first-passed, first-refused, refuses}
 use Rattle.index.proofs.OneMessage.{changes-positive}
 use Rattle.index.proofs.Records.{of-records, where-is, count-at, count-none}
 
@@ -58,6 +58,13 @@ module _ {c : Change} {b : List ℕ} {r : ℕ} {b′ : List ℕ} (s : Step c b r
 
   pub still-prepared : (cs : List ℕ) → Prepared cs b → Prepared cs b′
   still-prepared cs p = λ i l. still-ready (p i l)
+
+-- A run of one change.
+pub one-carried : {c : Change} {b : List ℕ} {r : ℕ} {b′ : List ℕ} → Step c b r b′ → Carried b (c ∷ []) b (r, b′)
+unfolding Carried
+one-carried {c} {b} {r} {b′} s =
+    first-map (λ n. (n, b)) (Done c b) (r, b′) (λ p. (b₁ : List ℕ) × Changed c b b₁ × Carried b [] b₁ p) (changeNeeds c b)
+    (λ d. (b′, d .1, ap (λ (n : ℕ). (n, b′)) (d .0))) (s .outcome)
 
 -- ---- a change that was done can be undone, and then the block is what it was
 

@@ -1,6 +1,7 @@
 // The halves of a message as a list of changes.
 
 use crate::numbers::number_at;
+use crate::run::change;
 use crate::run::pack;
 use crate::run::run;
 ghost use mathlib.Core.Path.{_≡_};
@@ -27,12 +28,10 @@ pub(crate) fn carry(b: &mut [u8], m: &[u8]) -> u8
 {
     let flags = m[1];
     if flags == 1 {
-        let list = [change_at(m, 2, false)];
-        return run(b, &list);
+        return change(b, change_at(m, 2, false));
     }
     if flags == 2 {
-        let list = [change_at(m, 7, true)];
-        return run(b, &list);
+        return change(b, change_at(m, 7, true));
     }
     let list = [change_at(m, 2, false), change_at(m, 7, true)];
     run(b, &list)
