@@ -1,4 +1,4 @@
--- For proofs only: the records of a name, and what its F records let through.
+-- For proofs only: which records are of which names, and what the F records of a name let through.
 use Prim.Native.Nat.{ℕ, _+_, _<_, _≤_}
 use mathlib.Core.Path.{_≡_}
 use mathlib.Core.List.{List}

@@ -73,7 +73,9 @@ loop-again c =
     )
 
 same-length : tie.Need-same-length Inv-loop μ-loop
-same-length c = let pre = c .before .before .before .before .before .before .pre .1 in c .before .loop .inv .2 ∙ sym (ap length (pre .1) ∙ pre .0 .names)
+same-length c =
+    let pre = c .before .before .before .before .before .before .pre .1 in
+    c .before .loop .inv .2 ∙ sym (ap length (pre .1) ∙ pre .0 .names)
 
 returns : tie.Need-returns Inv-loop μ-loop
 returns c =
