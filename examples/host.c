@@ -5,18 +5,22 @@
 
 enum { ROOM = 8, PLANNER = 1, REQUESTS = 9, COPY = 10 };
 
-/* The bytes of a half, and of one that is absent. */
-#define HALF(key, id, mask) (key) & 255, (key) >> 8, (id) & 255, (id) >> 8, (mask)
-#define ABSENT 0, 0, 0, 0, 0
-
 static uint8_t block[ANAQSIRO_BLOCK_MIN + ROOM * ANAQSIRO_RECORD];
 
 /* Says what was refused, and gives the value of an accepted call. */
 static uint32_t told(const char *what, uint64_t answer) {
-    if (anaqsiro_number(answer) != ANAQSIRO_ACCEPTED) {
-        printf("%s: refused with %u\n", what, anaqsiro_number(answer));
+    const uint32_t number = anaqsiro_number(answer);
+    if (number != ANAQSIRO_ACCEPTED) {
+        printf("%s: refused with %u, %s\n", what, number, anaqsiro_refusal_text(number));
     }
     return anaqsiro_value(answer);
+}
+
+/* Applies a permission's message to the block. */
+static void apply(const char *what, const struct anaqsiro_half *previous, const struct anaqsiro_half *new_half) {
+    uint8_t message[ANAQSIRO_MESSAGE];
+    anaqsiro_put_message(message, ANAQSIRO_PERMISSION, previous, new_half);
+    told(what, anaqsiro_message(block, sizeof block, message, sizeof message));
 }
 
 /* Asks whether the planner may release the purchase requests. */
@@ -25,29 +29,53 @@ static void ask(void) {
     printf("may release: %s\n", told("may", answer) ? "yes" : "no");
 }
 
+/* Prints a record by its number: the kind, the key, the id, and the count of each letter that has one. */
+static void print_record(char kind, uint32_t number) {
+    const uint64_t record = anaqsiro_record(block, sizeof block, number);
+    printf("record %u: %c, key %u, id %u:", number, kind, anaqsiro_key(record), anaqsiro_id(record));
+    for (uint32_t letter = 0; letter < ANAQSIRO_LETTERS; letter++) {
+        const uint32_t count = anaqsiro_value(anaqsiro_count(block, sizeof block, number, letter));
+        if (count > 0) {
+            printf(" %c %u", ANAQSIRO_SPELLED[letter], count);
+        }
+    }
+    printf("\n");
+}
+
+/* Prints every record of a good block. */
+static void print_records(void) {
+    told("tested", anaqsiro_tested(block, sizeof block));
+    uint32_t number = 0;
+    for (int kind = ANAQSIRO_MEMBERSHIP; kind <= ANAQSIRO_FILTER; kind++) {
+        for (uint32_t left = told("size", anaqsiro_size(block, sizeof block, kind)); left > 0; left--) {
+            print_record(" MPF"[kind], number++);
+        }
+    }
+}
+
 int main(void) {
-    /* The planner is granted update on the purchase requests. */
-    const uint8_t give[ANAQSIRO_MESSAGE] = {ANAQSIRO_PERMISSION, ANAQSIRO_HAS_NEW, ABSENT,
-                                            HALF(REQUESTS, PLANNER, ANAQSIRO_UPDATE)};
-    const uint8_t end[ANAQSIRO_MESSAGE] = {ANAQSIRO_PERMISSION, ANAQSIRO_HAS_PREVIOUS,
-                                           HALF(REQUESTS, PLANNER, ANAQSIRO_UPDATE), ABSENT};
+    const struct anaqsiro_half may_release = {REQUESTS, PLANNER, ANAQSIRO_UPDATE};
 
     told("make", anaqsiro_make(block, sizeof block));
-    told("first appointment", anaqsiro_message(block, sizeof block, give, sizeof give));
-    told("second appointment", anaqsiro_message(block, sizeof block, give, sizeof give));
-    told("the first ends", anaqsiro_message(block, sizeof block, end, sizeof end));
-    printf("rights on the requests: %u\n",
-           told("rights", anaqsiro_rights(block, sizeof block, PLANNER, REQUESTS, ANAQSIRO_ALL)));
+    apply("first appointment", NULL, &may_release);
+    apply("second appointment", NULL, &may_release);
+    print_records();
+    apply("the first ends", &may_release, NULL);
+    char letters[ANAQSIRO_LETTERS + 1];
+    const uint32_t held = told("rights", anaqsiro_rights(block, sizeof block, PLANNER, REQUESTS, ANAQSIRO_ALL));
+    printf("rights on the requests: %s\n", anaqsiro_put_letters(letters, held));
     ask();
 
     uint8_t text[64];
-    uint32_t length = told("write", anaqsiro_write(block, sizeof block, ANAQSIRO_PERMISSION, REQUESTS, text, sizeof text));
+    const uint32_t length =
+        told("write", anaqsiro_write(block, sizeof block, ANAQSIRO_PERMISSION, REQUESTS, text, sizeof text));
     printf("the set: %.*s\n", (int)length, (const char *)text);
     printf("read back under %d: %u record\n", COPY,
            told("read", anaqsiro_read(block, sizeof block, ANAQSIRO_PERMISSION, COPY, text, length)));
+    print_records();
 
-    told("the second ends", anaqsiro_message(block, sizeof block, end, sizeof end));
-    told("a third would end", anaqsiro_message(block, sizeof block, end, sizeof end));
+    apply("the second ends", &may_release, NULL);
+    apply("a third would end", &may_release, NULL);
     ask();
     told("a name past 16 bits", anaqsiro_rights(block, sizeof block, (1u << 16) + PLANNER, REQUESTS, ANAQSIRO_ALL));
     return 0;

@@ -23,20 +23,20 @@ static ucontext_t host, guest;
 static uint64_t answer;
 static uint64_t (*call)(void);
 static size_t depth, deepest;
+static uint8_t update[ANAQSIRO_MESSAGE];
 
-/* The half of a message about key and id. */
-static void put_half(uint8_t *half, unsigned key, unsigned id, uint8_t mask) {
-    const uint8_t bytes[] = {(uint8_t)key, (uint8_t)(key >> 8), (uint8_t)id, (uint8_t)(id >> 8), mask};
-    memcpy(half, bytes, sizeof bytes);
-}
-
-static void add(uint8_t kind, unsigned key, unsigned id, uint8_t mask) {
-    uint8_t message[ANAQSIRO_MESSAGE] = {kind, ANAQSIRO_HAS_NEW};
-    put_half(message + ANAQSIRO_NEW_AT, key, id, mask);
+static void add(uint64_t kind, uint64_t key, uint64_t id, uint64_t mask) {
+    const struct anaqsiro_half half = {key, id, mask};
+    uint8_t message[ANAQSIRO_MESSAGE];
+    anaqsiro_put_message(message, kind, NULL, &half);
     anaqsiro_message(block, sizeof block, message, sizeof message);
 }
 
-static uint8_t update[ANAQSIRO_MESSAGE] = {ANAQSIRO_MEMBERSHIP, ANAQSIRO_HAS_PREVIOUS | ANAQSIRO_HAS_NEW};
+/* The message that is measured: it moves letters of one membership to another. */
+static void put_update(uint64_t key, uint64_t id, uint64_t mask, uint64_t far) {
+    const struct anaqsiro_half previous = {key, id, mask}, moved = {far, far, ANAQSIRO_CREATE};
+    anaqsiro_put_message(update, ANAQSIRO_MEMBERSHIP, &previous, &moved);
+}
 
 static uint64_t call_make(void) { return anaqsiro_make(block, sizeof block); }
 static uint64_t call_message(void) { return anaqsiro_message(block, sizeof block, update, sizeof update); }
@@ -46,6 +46,10 @@ static uint64_t call_write(void) { return anaqsiro_write(block, sizeof block, AN
 static uint64_t call_read(void) {
     return anaqsiro_read(block, sizeof block, ANAQSIRO_PERMISSION, KEY, text, sizeof text - 1);
 }
+static uint64_t call_tested(void) { return anaqsiro_tested(block, sizeof block); }
+static uint64_t call_size(void) { return anaqsiro_size(block, sizeof block, ANAQSIRO_PERMISSION); }
+static uint64_t call_record(void) { return anaqsiro_record(block, sizeof block, CHAIN); }
+static uint64_t call_count(void) { return anaqsiro_count(block, sizeof block, CHAIN, 0); }
 
 /* Runs on the painted stack, and counts from its own frame down to the deepest byte that the call has written. */
 static void run(void) {
@@ -76,15 +80,17 @@ int main(void) {
     for (unsigned name = 1; name <= CHAIN; name++) {
         add(ANAQSIRO_MEMBERSHIP, name, name + 1, ANAQSIRO_ALL);
     }
-    put_half(update + ANAQSIRO_PREVIOUS_AT, 1, 2, ANAQSIRO_CREATE);
-    put_half(update + ANAQSIRO_NEW_AT, FAR, FAR, ANAQSIRO_CREATE);
+    put_update(1, 2, ANAQSIRO_CREATE, FAR);
     measure("anaqsiro_message", call_message);
     measure("anaqsiro_read", call_read);
     measure("anaqsiro_write", call_write);
     measure("anaqsiro_rights", call_rights);
     measure("anaqsiro_may", call_may);
-    put_half(update + ANAQSIRO_PREVIOUS_AT, 2, 3, ANAQSIRO_READ);
-    put_half(update + ANAQSIRO_NEW_AT, FAR + 1, FAR + 1, ANAQSIRO_CREATE);
+    measure("anaqsiro_tested", call_tested);
+    measure("anaqsiro_size", call_size);
+    measure("anaqsiro_record", call_record);
+    measure("anaqsiro_count", call_count);
+    put_update(2, 3, ANAQSIRO_READ, FAR + 1);
     measure("anaqsiro_message", call_message);
     measure("anaqsiro_make", call_make);
     return deepest > LIMIT;

@@ -5,9 +5,18 @@
  * 2^32 plus a value; anaqsiro_number and anaqsiro_value take it apart. The number is 0 where the call was accepted. A refused
  * call has the value 0 and leaves every lent byte as it was.
  *
+ * - anaqsiro_read CHANGES THE BLOCK, anaqsiro_write DOES NOT. The first reads a text into the block: the records that it had
+ *   of that kind and key are gone. The second writes a text out of the block.
+ * - A REFUSAL IS NOT ZERO: if (anaqsiro_may(..)) would take it for a yes. Test anaqsiro_value of the answer, which is 0 for
+ *   every refusal.
+ * - DENIALS DO NOT REACH ACROSS RECORDS. "No read" takes read out of the one permission record that it stands in; another one
+ *   may still give it, to a group of the same user or on a group of the same object.
+ *
  * No call keeps anything between calls, allocates, or touches memory other than the bytes it is lent and its own stack. So
  * several threads may call at once, as long as no block or buffer that one of them writes is used by another. Two buffers of
  * one call must not overlap where one of them is written. A length of 0 may come with a null pointer.
+ *
+ * This header is C99 and C++11. docs/LINKING.md has what a host should know beside it.
  */
 #ifndef ANAQSIRO_H
 #define ANAQSIRO_H
@@ -18,6 +27,16 @@
 #ifdef __cplusplus
 extern "C" {
 #endif
+
+/* The version of this header and its archive. The block's format is part of it: as long as the first two numbers are the same,
+ * a block, a message or a text of one version is good for the other and means the same there, and every call is made and
+ * answers as before. Where any of this changes, the second number rises; where something is only added, the third. */
+#define ANAQSIRO_VERSION "0.1.0"
+#define ANAQSIRO_VERSION_MAJOR 0
+#define ANAQSIRO_VERSION_MINOR 1
+#define ANAQSIRO_VERSION_PATCH 0
+
+/* ---- numbers of the rules */
 
 /* Names of users, groups and objects are below this number; 0 is the group of all resources. */
 #define ANAQSIRO_NAMES 1024u
@@ -34,7 +53,7 @@ extern "C" {
 #define ANAQSIRO_BLOCK_MAX (ANAQSIRO_BLOCK_MIN + ANAQSIRO_ROOM_MAX * ANAQSIRO_RECORD)
 
 /* A message: kind, flags, then the previous half at the first of these places and the new one at the second. A half is key, id
- * (16 bits each, low byte first) and mask; an absent half is zero bytes. */
+ * (16 bits each, low byte first) and mask; an absent half is zero bytes. anaqsiro_put_message writes one. */
 #define ANAQSIRO_HALF 5u
 #define ANAQSIRO_PREVIOUS_AT 2u
 #define ANAQSIRO_NEW_AT (ANAQSIRO_PREVIOUS_AT + ANAQSIRO_HALF)
@@ -42,8 +61,14 @@ extern "C" {
 #define ANAQSIRO_HAS_PREVIOUS 1u
 #define ANAQSIRO_HAS_NEW 2u
 
-/* No text of a set is longer. */
-#define ANAQSIRO_TEXT_MAX (ANAQSIRO_ROOM_MAX * (7u + 6u * ANAQSIRO_LETTERS))
+/* The longest text of a set, 54,185 bytes, with no zero byte at its end. That set has a permission record for each name as its
+ * id, and in each record every letter at a count of five digits. Its bytes are
+ *   the digits of the ids: 10 ids of one digit, 90 of two, 900 of three, the other 24 of four;
+ *   one ; after each id, and one between two records;
+ *   in each record every letter, with the five digits of its count. */
+#define ANAQSIRO_ID_DIGITS (10u * 1u + 90u * 2u + 900u * 3u + (ANAQSIRO_NAMES - 1000u) * 4u)
+#define ANAQSIRO_TEXT_MAX \
+    (ANAQSIRO_ID_DIGITS + ANAQSIRO_NAMES + (ANAQSIRO_NAMES - 1u) + ANAQSIRO_NAMES * ANAQSIRO_LETTERS * (1u + 5u))
 
 /* What a record says. */
 enum anaqsiro_kind {
@@ -65,25 +90,31 @@ enum anaqsiro_letter {
     ANAQSIRO_ALL = ANAQSIRO_CREATE | ANAQSIRO_READ | ANAQSIRO_UPDATE | ANAQSIRO_DELETE
 };
 
-/* The numbers that a call can give. */
+/* The letters as a text has them, in the order of their masks. A letter's number is its place here, 0 for M to 7 for p; its
+ * mask is 2 to that number. */
+#define ANAQSIRO_SPELLED "MRUPmrup"
+
+/* The numbers that a call can give. anaqsiro_refusal_text says when. */
 enum anaqsiro_number {
     ANAQSIRO_ACCEPTED = 0,
-    ANAQSIRO_BLOCK_LENGTH = 1,    /* block length not ANAQSIRO_BLOCK_MIN to ANAQSIRO_BLOCK_MAX */
-    ANAQSIRO_BLOCK_NOT_GOOD = 2,  /* block not good */
-    ANAQSIRO_FORM = 3,            /* message not ANAQSIRO_MESSAGE bytes, or kind, flags or an absent half wrong; no such kind */
-    ANAQSIRO_NAME = 4,            /* a name not below ANAQSIRO_NAMES, given by the caller or in a present half */
-    ANAQSIRO_MASK = 5,            /* request or a present half's mask 0, or above ANAQSIRO_ALL (a permission's mask may be) */
-    ANAQSIRO_NOTHING_TO_TAKE = 6, /* a letter of the previous half has count 0 or no record */
-    ANAQSIRO_COUNT_FULL = 7,      /* after taking away, a letter to add stands at ANAQSIRO_COUNT_MAX */
-    ANAQSIRO_NO_ROOM = 8,         /* after taking away (or removing the old set), the records do not fit */
-    ANAQSIRO_TEXT = 9,            /* not the text of any set of that kind */
-    ANAQSIRO_TEXT_LONG = 10       /* text longer than the output buffer */
+    ANAQSIRO_BLOCK_LENGTH = 1,
+    ANAQSIRO_BLOCK_NOT_GOOD = 2,
+    ANAQSIRO_FORM = 3,
+    ANAQSIRO_NAME = 4,
+    ANAQSIRO_MASK = 5,
+    ANAQSIRO_NOTHING_TO_TAKE = 6,
+    ANAQSIRO_COUNT_FULL = 7,
+    ANAQSIRO_NO_ROOM = 8,
+    ANAQSIRO_TEXT = 9,
+    ANAQSIRO_TEXT_LONG = 10
 };
+
+/* ---- the calls */
 
 /* Makes the block an empty one. Numbers 0, 1. Value 0. */
 uint64_t anaqsiro_make(uint8_t *block, size_t len);
 
-/* Applies a message to the block. Numbers 0 to 8. Value 0. */
+/* Applies a message to the block: takes its previous half away, then adds the new one. Numbers 0 to 8. Value 0. */
 uint64_t anaqsiro_message(uint8_t *block, size_t len, const uint8_t *message, size_t message_len);
 
 /* The rights that the user holds on the object, of those requested. Numbers 0, 1, 2, 4, 5. Value: the rights. */
@@ -99,11 +130,136 @@ uint64_t anaqsiro_write(const uint8_t *block, size_t len, uint64_t kind, uint64_
 /* Replaces the records of one kind and key by those of a text. Numbers 0, 1, 2, 3, 4, 9, 8. Value: how many records. */
 uint64_t anaqsiro_read(uint8_t *block, size_t len, uint64_t kind, uint64_t key, const uint8_t *text, size_t text_len);
 
+/* ---- a block as it stands, record by record
+ *
+ * Only the first of these calls tests the block, so that a host can go through 2,048 records without 2,048 tests. Of a block
+ * that is not good the others give what its bytes say, with 0 for each byte that it does not have. */
+
+/* Whether the block is good. Numbers 0, 1, 2. Value 0. */
+uint64_t anaqsiro_tested(const uint8_t *block, size_t len);
+
+/* How many records of the kind the block's header says there are. Numbers 0, 3. Value: how many. */
+uint64_t anaqsiro_size(const uint8_t *block, size_t len, uint64_t kind);
+
+/* The key and the id of a record; anaqsiro_key and anaqsiro_id take the answer apart. Records are numbered from 0 on: first
+ * the memberships, then the permissions, then the filters, as many of each as anaqsiro_size says; those of a kind rise by key,
+ * then by id. Past the bytes of the block, and for a number above 65,535, the value is 0. That is no mark of the end: a record
+ * of the key 0 and the id 0 has the value 0 too. Number 0. Value: key + 65,536 * id. */
+uint64_t anaqsiro_record(const uint8_t *block, size_t len, uint64_t number);
+
+/* The count of a letter, by its number 0 to 7, in a record, numbered as for anaqsiro_record. 0 for any other letter. Number 0.
+ * Value: the count. */
+uint64_t anaqsiro_count(const uint8_t *block, size_t len, uint64_t number, uint64_t letter);
+
+/* ---- an answer taken apart */
+
 /* The number of an answer: 0 where the call was accepted. */
 static inline uint32_t anaqsiro_number(uint64_t answer) { return (uint32_t)(answer >> 32); }
 
-/* The value of an answer. */
-static inline uint32_t anaqsiro_value(uint64_t answer) { return (uint32_t)answer; }
+/* The value of an answer: 0 where the call was refused. */
+static inline uint32_t anaqsiro_value(uint64_t answer) { return (uint32_t)(answer & 0xFFFFFFFFu); }
+
+/* The key of an answer of anaqsiro_record. */
+static inline uint32_t anaqsiro_key(uint64_t answer) { return anaqsiro_value(answer) & 0xFFFFu; }
+
+/* The id of an answer of anaqsiro_record. */
+static inline uint32_t anaqsiro_id(uint64_t answer) { return anaqsiro_value(answer) >> 16; }
+
+/* When a call gives the number, in the words of the rules. "unknown" for a number that is not of this version. */
+static inline const char *anaqsiro_refusal_text(uint64_t number) {
+    switch (number) {
+    case ANAQSIRO_ACCEPTED: return "accepted";
+    case ANAQSIRO_BLOCK_LENGTH: return "block length not 16 to 40,976";
+    case ANAQSIRO_BLOCK_NOT_GOOD: return "block not good";
+    case ANAQSIRO_FORM: return "message not 12 bytes, or kind, flags or an absent half wrong; kind not 1 to 3";
+    case ANAQSIRO_NAME: return "a name above 1023, given by the caller or in a present half";
+    case ANAQSIRO_MASK: return "request 0 or above 15; a present half's mask 0, or above 15 for M or F";
+    case ANAQSIRO_NOTHING_TO_TAKE: return "a letter of the previous half has count 0 or no record";
+    case ANAQSIRO_COUNT_FULL: return "after taking away, a letter to add stands at 65,535";
+    case ANAQSIRO_NO_ROOM: return "after taking away (or removing the old set), the records do not fit";
+    case ANAQSIRO_TEXT: return "not the text of any set of that kind";
+    case ANAQSIRO_TEXT_LONG: return "text longer than the output buffer";
+    default: return "unknown";
+    }
+}
+
+/* ---- letters */
+
+/* The number of a letter, as anaqsiro_count takes it: 0 for M to 7 for p. 8 for any other byte. */
+static inline uint32_t anaqsiro_letter_number(char letter) {
+    uint32_t number = 0;
+    while (number < ANAQSIRO_LETTERS && ANAQSIRO_SPELLED[number] != letter) {
+        number++;
+    }
+    return number;
+}
+
+/* The mask of a word of letters: 7 for "MRU", in any order. Where a byte of the word is no letter it is 0, as for the empty
+ * word, and every request and every half with the mask 0 is refused with 5. */
+static inline uint32_t anaqsiro_mask(const char *word) {
+    uint32_t mask = 0;
+    for (; *word != 0; word++) {
+        const uint32_t number = anaqsiro_letter_number(*word);
+        if (number == ANAQSIRO_LETTERS) {
+            return 0;
+        }
+        mask |= (uint32_t)1 << number;
+    }
+    return mask;
+}
+
+/* Writes the letters of a mask to a buffer of ANAQSIRO_LETTERS + 1 bytes, "MRU" for 7, with a zero byte after the last, and
+ * gives the buffer back. Bits of the mask that stand for no letter are passed over. */
+static inline char *anaqsiro_put_letters(char *out, uint64_t mask) {
+    size_t length = 0;
+    for (uint32_t number = 0; number < ANAQSIRO_LETTERS; number++) {
+        if ((mask >> number & 1u) != 0) {
+            out[length++] = ANAQSIRO_SPELLED[number];
+        }
+    }
+    out[length] = 0;
+    return out;
+}
+
+/* ---- a message put together */
+
+/* One half of a message: the record that it speaks of, by key and id, and the letters to take away from it or to add to it.
+ * The numbers are 64 bits wide, as those of the calls, so that 65,537 is never taken for 1. */
+struct anaqsiro_half {
+    uint64_t key;
+    uint64_t id;
+    uint64_t mask;
+};
+
+/* Writes a name to two bytes, the low one first. One that does not fit becomes 65,535, which no name is. */
+static inline void anaqsiro_put_name(uint8_t *at, uint64_t name) {
+    const uint64_t fits = name > 0xFFFFu ? 0xFFFFu : name;
+    at[0] = (uint8_t)(fits & 0xFFu);
+    at[1] = (uint8_t)(fits >> 8);
+}
+
+/* Writes a kind or a mask to a byte. One that does not fit becomes 0, which no kind and no mask is. */
+static inline void anaqsiro_put_byte(uint8_t *at, uint64_t number) { *at = (uint8_t)(number > 0xFFu ? 0u : number); }
+
+/* Writes a half to its ANAQSIRO_HALF bytes. A null pointer stands for an absent half. */
+static inline void anaqsiro_put_half(uint8_t *at, const struct anaqsiro_half *half) {
+    const struct anaqsiro_half absent = {0, 0, 0};
+    const struct anaqsiro_half *written = half == NULL ? &absent : half;
+    anaqsiro_put_name(at, written->key);
+    anaqsiro_put_name(at + 2, written->id);
+    anaqsiro_put_byte(at + 4, written->mask);
+}
+
+/* Writes a message to its ANAQSIRO_MESSAGE bytes: what the statement said before, and what it says now. A null pointer stands
+ * for an absent half: no previous half where the statement is new, no new half where it is withdrawn. Whatever is wrong with a
+ * number here, anaqsiro_message refuses by the number of the rules: 3, 4 or 5. */
+static inline void anaqsiro_put_message(uint8_t *message, uint64_t kind, const struct anaqsiro_half *previous,
+                                        const struct anaqsiro_half *new_half) {
+    anaqsiro_put_byte(message, kind);
+    message[1] = (uint8_t)((previous != NULL ? ANAQSIRO_HAS_PREVIOUS : 0u) | (new_half != NULL ? ANAQSIRO_HAS_NEW : 0u));
+    anaqsiro_put_half(message + ANAQSIRO_PREVIOUS_AT, previous);
+    anaqsiro_put_half(message + ANAQSIRO_NEW_AT, new_half);
+}
 
 #ifdef __cplusplus
 }

@@ -1,0 +1,179 @@
+/* Tests what the header gives beside the calls of the rules, as C99 and as C++11: the helpers, the longest text, and the calls
+ * that go through a block record by record. */
+#include "anaqsiro.h"
+
+#include <stdio.h>
+#include <string.h>
+
+#ifdef __cplusplus
+#define LANGUAGE "C++"
+#else
+#define LANGUAGE "C"
+#endif
+
+enum { KEY = 7, ROOM = 4 };
+
+static unsigned tests, failures;
+
+/* One test: what was tested, what came out, and what should have. */
+static void same(const char *what, uint64_t got, uint64_t wanted) {
+    tests++;
+    if (got != wanted) {
+        failures++;
+        printf("%s: %lu, not %lu\n", what, (unsigned long)got, (unsigned long)wanted);
+    }
+}
+
+/* The same of words. */
+static void same_words(const char *what, const char *got, const char *wanted) {
+    tests++;
+    if (strcmp(got, wanted) != 0) {
+        failures++;
+        printf("%s: \"%s\", not \"%s\"\n", what, got, wanted);
+    }
+}
+
+static void test_version(void) {
+    char numbers[32];
+    snprintf(numbers, sizeof numbers, "%d.%d.%d", ANAQSIRO_VERSION_MAJOR, ANAQSIRO_VERSION_MINOR, ANAQSIRO_VERSION_PATCH);
+    same_words("version", numbers, ANAQSIRO_VERSION);
+}
+
+/* Each mask as letters and back, and words that are not in order, empty, or of other bytes. */
+static void test_letters(void) {
+    char word[ANAQSIRO_LETTERS + 1];
+    for (uint32_t mask = 0; mask < 256; mask++) {
+        same("mask", anaqsiro_mask(anaqsiro_put_letters(word, mask)), mask);
+    }
+    same_words("7", anaqsiro_put_letters(word, 7), "MRU");
+    same_words("255", anaqsiro_put_letters(word, 255), ANAQSIRO_SPELLED);
+    same_words("258", anaqsiro_put_letters(word, 258), "R");
+    same("UMp", anaqsiro_mask("UMp"), ANAQSIRO_CREATE | ANAQSIRO_UPDATE | ANAQSIRO_NO_DELETE);
+    same("MXR", anaqsiro_mask("MXR"), 0);
+    same("letter r", anaqsiro_letter_number('r'), 5);
+    same("letter x", anaqsiro_letter_number('x'), ANAQSIRO_LETTERS);
+    same("letter 0", anaqsiro_letter_number(0), ANAQSIRO_LETTERS);
+}
+
+/* Each number of the table has words of its own; later ones have none. */
+static void test_refusals(void) {
+    same_words("0", anaqsiro_refusal_text(0), "accepted");
+    for (uint64_t number = 0; number <= ANAQSIRO_TEXT_LONG; number++) {
+        same("known", strcmp(anaqsiro_refusal_text(number), "unknown") == 0, 0);
+        for (uint64_t before = 0; before < number; before++) {
+            same("own words", strcmp(anaqsiro_refusal_text(number), anaqsiro_refusal_text(before)) == 0, 0);
+        }
+    }
+    same_words("11", anaqsiro_refusal_text(ANAQSIRO_TEXT_LONG + 1), "unknown");
+    same_words("2^32", anaqsiro_refusal_text((uint64_t)1 << 32), "unknown");
+}
+
+/* The bytes of a message with both halves, and with one. */
+static void test_bytes(void) {
+    const struct anaqsiro_half before = {0x102, 0x304, 5}, now = {6, 7, 0x88};
+    const uint8_t both[] = {2, 3, 0x02, 0x01, 0x04, 0x03, 5, 6, 0, 7, 0, 0x88};
+    const uint8_t first[] = {2, 2, 0, 0, 0, 0, 0, 6, 0, 7, 0, 0x88};
+    const uint8_t last[] = {2, 1, 0x02, 0x01, 0x04, 0x03, 5, 0, 0, 0, 0, 0};
+    uint8_t message[ANAQSIRO_MESSAGE];
+    same("message", sizeof message, sizeof both);
+    anaqsiro_put_message(message, ANAQSIRO_PERMISSION, &before, &now);
+    same("both halves", memcmp(message, both, sizeof both) == 0, 1);
+    anaqsiro_put_message(message, ANAQSIRO_PERMISSION, NULL, &now);
+    same("a new half", memcmp(message, first, sizeof first) == 0, 1);
+    anaqsiro_put_message(message, ANAQSIRO_PERMISSION, &before, NULL);
+    same("a previous half", memcmp(message, last, sizeof last) == 0, 1);
+}
+
+/* The number that an empty block gives for a message with this new half. */
+static uint32_t number_of(uint64_t kind, uint64_t key, uint64_t id, uint64_t mask) {
+    const struct anaqsiro_half half = {key, id, mask};
+    uint8_t block[ANAQSIRO_BLOCK_MIN + ANAQSIRO_RECORD], message[ANAQSIRO_MESSAGE];
+    anaqsiro_make(block, sizeof block);
+    anaqsiro_put_message(message, kind, NULL, &half);
+    return anaqsiro_number(anaqsiro_message(block, sizeof block, message, sizeof message));
+}
+
+/* A number that is too large for its bytes is refused, and never taken for another. */
+static void test_wide_numbers(void) {
+    static const uint64_t wide[] = {256, 257, 65536, 65537, ((uint64_t)1 << 32) + 1, UINT64_MAX};
+    for (size_t i = 0; i < sizeof wide / sizeof *wide; i++) {
+        const uint32_t name = wide[i] < ANAQSIRO_NAMES ? ANAQSIRO_ACCEPTED : ANAQSIRO_NAME;
+        same("wide key", number_of(ANAQSIRO_PERMISSION, wide[i], 1, 1), name);
+        same("wide id", number_of(ANAQSIRO_PERMISSION, 1, wide[i], 1), name);
+        same("wide mask", number_of(ANAQSIRO_PERMISSION, 1, 1, wide[i]), ANAQSIRO_MASK);
+        same("wide kind", number_of(wide[i], 1, 1, 1), ANAQSIRO_FORM);
+    }
+    same("no letters", number_of(ANAQSIRO_PERMISSION, 1, 1, anaqsiro_mask("Q")), ANAQSIRO_MASK);
+    same("all letters", number_of(ANAQSIRO_PERMISSION, 1, 1, anaqsiro_mask(ANAQSIRO_SPELLED)), ANAQSIRO_ACCEPTED);
+}
+
+/* The longest set, a record for each name and each letter at a count of five digits, is read from its text and written out. */
+static void test_longest_text(void) {
+    static uint8_t block[ANAQSIRO_BLOCK_MAX];
+    static char text[ANAQSIRO_TEXT_MAX + 1];
+    static uint8_t out[ANAQSIRO_TEXT_MAX];
+    size_t length = 0;
+    for (unsigned id = 0; id < ANAQSIRO_NAMES; id++) {
+        length += (size_t)snprintf(text + length, sizeof text - length, "%s%u;", id == 0 ? "" : ";", id);
+        for (unsigned k = 0; k < ANAQSIRO_LETTERS; k++) {
+            length += (size_t)snprintf(text + length, sizeof text - length, "%c%u", ANAQSIRO_SPELLED[k], ANAQSIRO_COUNT_MAX);
+        }
+    }
+    same("longest text", length, ANAQSIRO_TEXT_MAX);
+    same("make", anaqsiro_make(block, sizeof block), 0);
+    same("read", anaqsiro_read(block, sizeof block, ANAQSIRO_PERMISSION, KEY, (const uint8_t *)text, length), ANAQSIRO_NAMES);
+    same("write", anaqsiro_write(block, sizeof block, ANAQSIRO_PERMISSION, KEY, out, sizeof out), ANAQSIRO_TEXT_MAX);
+    same("the same text", memcmp(text, out, sizeof out) == 0, 1);
+    same("a byte less", anaqsiro_number(anaqsiro_write(block, sizeof block, ANAQSIRO_PERMISSION, KEY, out, sizeof out - 1)),
+         ANAQSIRO_TEXT_LONG);
+}
+
+/* The calls that go through a block, on a good block of three records, on numbers past it, and on one that is not good. */
+static void test_records(void) {
+    uint8_t block[ANAQSIRO_BLOCK_MIN + ROOM * ANAQSIRO_RECORD];
+    static const uint8_t two[] = "3;MRU;1023;MRU2p65535", one[] = "20;RU";
+    const uint64_t letter_u = anaqsiro_letter_number('U');
+    anaqsiro_make(block, sizeof block);
+    same("two", anaqsiro_read(block, sizeof block, ANAQSIRO_PERMISSION, KEY, two, sizeof two - 1), 2);
+    same("one", anaqsiro_read(block, sizeof block, ANAQSIRO_MEMBERSHIP, 1023, one, sizeof one - 1), 1);
+
+    same("good", anaqsiro_tested(block, sizeof block), 0);
+    same("too short", anaqsiro_number(anaqsiro_tested(block, ANAQSIRO_BLOCK_MIN - 1)), ANAQSIRO_BLOCK_LENGTH);
+    same("no bytes", anaqsiro_number(anaqsiro_tested(NULL, 0)), ANAQSIRO_BLOCK_LENGTH);
+
+    same("memberships", anaqsiro_size(block, sizeof block, ANAQSIRO_MEMBERSHIP), 1);
+    same("permissions", anaqsiro_size(block, sizeof block, ANAQSIRO_PERMISSION), 2);
+    same("filters", anaqsiro_size(block, sizeof block, ANAQSIRO_FILTER), 0);
+    same("kind 0", anaqsiro_number(anaqsiro_size(block, sizeof block, 0)), ANAQSIRO_FORM);
+    same("kind 4", anaqsiro_number(anaqsiro_size(block, sizeof block, 4)), ANAQSIRO_FORM);
+
+    same("record 0: key", anaqsiro_key(anaqsiro_record(block, sizeof block, 0)), 1023);
+    same("record 0: id", anaqsiro_id(anaqsiro_record(block, sizeof block, 0)), 20);
+    same("record 2: key", anaqsiro_key(anaqsiro_record(block, sizeof block, 2)), KEY);
+    same("record 2: id", anaqsiro_id(anaqsiro_record(block, sizeof block, 2)), 1023);
+    same("record 3", anaqsiro_record(block, sizeof block, 3), 0);
+    same("record past the bytes", anaqsiro_record(block, sizeof block, ROOM), 0);
+    same("record 65,536", anaqsiro_record(block, sizeof block, 65536), 0);
+
+    same("record 2: U", anaqsiro_count(block, sizeof block, 2, letter_u), 2);
+    same("record 2: p", anaqsiro_count(block, sizeof block, 2, 7), ANAQSIRO_COUNT_MAX);
+    same("record 2: m", anaqsiro_count(block, sizeof block, 2, 4), 0);
+    same("letter 8", anaqsiro_count(block, sizeof block, 1, ANAQSIRO_LETTERS), 0);
+    same("a count past the bytes", anaqsiro_count(block, sizeof block, ROOM, 0), 0);
+
+    block[6] = 1; /* this number is to be zero */
+    same("not good", anaqsiro_number(anaqsiro_tested(block, sizeof block)), ANAQSIRO_BLOCK_NOT_GOOD);
+    same("record 0 of it", anaqsiro_id(anaqsiro_record(block, sizeof block, 0)), 20);
+}
+
+int main(void) {
+    test_version();
+    test_letters();
+    test_refusals();
+    test_bytes();
+    test_wide_numbers();
+    test_longest_text();
+    test_records();
+    printf("include/anaqsiro.h as " LANGUAGE ": %u tests, %u failed\n", tests, failures);
+    return failures > 0;
+}
