@@ -44,7 +44,7 @@ pub(crate) fn half_in(n: u64) -> Half
 }
 
 // One change.
-pub(crate) fn change(b: &mut [u8], n: u64) -> u8
+fn change(b: &mut [u8], n: u64) -> u8
     requires { ⌜ Ready (halfIn n) (now b) ⌝ }
     ensures { λ r. ⌜ Step (changeIn n) (now (b .entry)) r (now (b .exit)) ⌝ }
 {
