@@ -4,3 +4,4 @@ mod Texts
 mod LinesBound
 mod StaysUsable
 mod Feeding
+mod OnePrint
