@@ -7,11 +7,12 @@ use mathlib.Core.Logic.{⊎-elim}
 use lib.ListN.{length, getD, length-append}
 use lib.Dec.{ltb, leb}
 use native.Mathlib.Omega.{arith}
-use borrow.Author.Tests.{lt-ltb, le-ltb, le-leb, lt-leb, ltb-false, leb-true}
-use Rattle.index.specs.Text.{digitsOf, decimal}
+use borrow.Author.Tests.{le-ltb, le-leb, lt-leb, ltb-false, leb-true}
+use Rattle.index.specs.Text.{digitsOf, mostDigits, decimal}
+use Rattle.index.specs.Longest.{fieldDigits}
 use Rattle.index.specs.Reading.{digit}
 use Rattle.index.proofs.Range.{lt-or-le}
-use Rattle.index.proofs.Digits.{digits-small, digits-step, digits-more, digits-long, ten, ten-pos}
+use Rattle.index.proofs.Digits.{digits-small, digits-step, digits-more, digits-long, ten}
 
 -- the first byte; `;` where there is none
 abbrev pub first : List ℕ → ℕ
@@ -33,28 +34,33 @@ digit-bounds b e = go (ltb b 48) refl e
     go true h k = let z : _≡_ {A = ℕ} 0 1 = cc in omega arith
     go false h k = (ltb-false b 48 h, leb-true b 57 k)
 
--- a number with a digit more at its end
-pub decimal-snoc : (n d : ℕ) → 1 ≤ n → 10 * n + d < 100000 → d < 10 → decimal (10 * n + d) ≡ decimal n ++ ((48 + d) ∷ [])
+pub decimal-small : (n : ℕ) → n < 10 → decimal n ≡ (48 + n) ∷ []
 unfolding decimal
+decimal-small = digits-small 19
+
+-- the last digit, and those before it
+pub decimal-step : (n : ℕ) → 10 ≤ n → n < ten mostDigits → decimal n ≡ decimal (n / 10) ++ ((48 + n % 10) ∷ [])
+unfolding decimal
+decimal-step n h k =
+    digits-step 19 n h ∙ ap (λ (l : List ℕ). l ++ ((48 + n % 10) ∷ [])) (sym (digits-more 18 (n / 10) (omega arith)))
+
+pub decimal-longer : (n : ℕ) → 10 ≤ n → n < ten mostDigits → length (decimal n) ≡ length (decimal (n / 10)) + 1
+decimal-longer n h k = ap length (decimal-step n h k) ∙ length-append (decimal (n / 10)) ((48 + n % 10) ∷ [])
+
+-- a number with a digit more at its end
+pub decimal-snoc : (n d : ℕ) → 1 ≤ n → 10 * n + d < ten mostDigits → d < 10 → decimal (10 * n + d) ≡ decimal n ++ ((48 + d) ∷ [])
 decimal-snoc n d h k j =
     let q : (10 * n + d) / 10 ≡ n = omega arith in
     let m : (10 * n + d) % 10 ≡ d = omega arith in
-    let e : digitsOf 5 n ≡ digitsOf 4 n = digits-more 3 n (omega arith) in
-    digits-step 4 (10 * n + d) (omega arith) ∙ rw (q, m, e)
+    decimal-step (10 * n + d) (omega arith) k ∙ rw (q, m)
 
-pub decimal-five : (n : ℕ) → length (decimal n) ≤ 5
+pub decimal-five : (n : ℕ) → n < ten fieldDigits → length (decimal n) ≤ fieldDigits
 unfolding decimal
-decimal-five n = digits-long 5 n
+decimal-five = digits-long mostDigits 4
 
--- the last digit, and those before it
-pub decimal-step : (n : ℕ) → 10 ≤ n → n < 100000 → decimal n ≡ decimal (n / 10) ++ ((48 + n % 10) ∷ [])
+pub decimal-twenty : (n : ℕ) → n < ten mostDigits → length (decimal n) ≤ mostDigits
 unfolding decimal
-decimal-step n h k =
-    digits-step 4 n h ∙ ap (λ (l : List ℕ). l ++ ((48 + n % 10) ∷ [])) (sym (digits-more 3 (n / 10) (omega arith)))
-
-pub decimal-small : (n : ℕ) → n < 10 → decimal n ≡ (48 + n) ∷ []
-unfolding decimal
-decimal-small n h = digits-small 4 n h
+decimal-twenty = digits-long mostDigits 19
 
 pub decimal-zero : decimal 0 ≡ 48 ∷ []
 unfolding decimal digitsOf
@@ -92,10 +98,14 @@ spells-snoc n m d h e (spells b t l u ds v) =
 spelt-small : (d n : ℕ) → 1 ≤ n → n < 10 → Spells n (digitsOf (suc d) n)
 spelt-small d n l h = rw (digits-small d n h) (spells (48 + n) [] (omega arith) (omega arith) none (omega arith))
 
-pub spelt : (d n : ℕ) → 1 ≤ n → n < ten (suc d) → Spells n (digitsOf (suc d) n)
+spelt : (d n : ℕ) → 1 ≤ n → n < ten (suc d) → Spells n (digitsOf (suc d) n)
 spelt ℕ.zero n l h = spelt-small 0 n l (omega arith)
 spelt (suc d) n l h =
     ⊎-elim (spelt-small (suc d) n l)
     (λ k. rw (digits-step (suc d) n k)
     (spells-snoc (n / 10) n (n % 10) (omega arith) (omega arith) (spelt d (n / 10) (omega arith) (omega arith))))
     (lt-or-le n 10)
+
+pub decimal-spelt : (n : ℕ) → 1 ≤ n → n < ten mostDigits → Spells n (decimal n)
+unfolding decimal
+decimal-spelt = spelt 19

@@ -14,10 +14,6 @@ abbrev pub ten : ℕ → ℕ
 ten ℕ.zero = 1
 ten (suc d) = 10 * ten d
 
-pub ten-pos : (d : ℕ) → 1 ≤ ten d
-ten-pos ℕ.zero = omega arith
-ten-pos (suc d) = omega (arith, ten-pos d)
-
 pub digits-small : (d n : ℕ) → n < 10 → digitsOf (suc d) n ≡ (48 + n) ∷ []
 unfolding digitsOf
 digits-small d n h = simp (lt-ltb n 10 h)
@@ -36,9 +32,17 @@ digits-more (suc d) n h =
     ∙ sym (digits-step (suc d) n k))
     (lt-or-le n 10)
 
-pub digits-long : (d n : ℕ) → length (digitsOf d n) ≤ d
-digits-long ℕ.zero n = unfold digitsOf in omega arith
-digits-long (suc d) n =
-    ⊎-elim (λ k. omega (arith, ap length (digits-small d n k)))
-    (λ k. omega (arith, ap length (digits-step d n k), length-append (digitsOf d (n / 10)) ((48 + n % 10) ∷ []), digits-long d (n / 10)))
+-- A number below 10 ^ k has at most k digits; 0 has one.
+pub digits-long : (d k n : ℕ) → n < ten (suc k) → length (digitsOf d n) ≤ suc k
+digits-long ℕ.zero k n h = unfold digitsOf in omega arith
+digits-long (suc d) ℕ.zero n h = omega (arith, ap length (digits-small d n (omega arith)))
+digits-long (suc d) (suc k) n h =
+    ⊎-elim (λ l. omega (arith, ap length (digits-small d n l)))
+    (λ l.
+    omega (
+      arith,
+      ap length (digits-step d n l),
+      length-append (digitsOf d (n / 10)) ((48 + n % 10) ∷ []),
+      digits-long d k (n / 10) (omega arith),
+    ))
     (lt-or-le n 10)

@@ -12,8 +12,7 @@ use Rattle.index.specs.Letters.{letters}
 use Rattle.index.specs.Text.{decimal, pieceOf, piecesOf}
 use Rattle.index.specs.Reading.{digit, readCount, readLetter, readCounts}
 use Rattle.index.specs.Reading.Parsed.{got}
-use Rattle.index.proofs.Digits.{digits-long}
-use Rattle.index.proofs.Decimal.{first, digit-yes, digit-high, spelt, Spells}
+use Rattle.index.proofs.Decimal.{first, digit-yes, digit-high, decimal-five, decimal-spelt, Spells}
 use Rattle.index.proofs.Decimal.Spells.{spells}
 use Rattle.index.proofs.TakenApart.{and-inv, cond-inv, and-true}
 use Rattle.index.proofs.ReadNumbers.{spells-complete, number-sound}
@@ -55,7 +54,7 @@ letter-complete true l (suc ℕ.zero) [] n h d m = simp (eq-eqb l l refl) (unfol
 letter-complete true l (suc ℕ.zero) (b ∷ r) n h d m = simp (eq-eqb l l refl) (unfold readCount in simp d)
 letter-complete true l (suc (suc c)) r n h d m =
     simp (eq-eqb l l refl)
-    (unfold decimal in count-complete (suc (suc c)) r (spelt 4 (suc (suc c)) (omega arith) (omega arith)) (digits-long 5 (suc (suc c))) (omega arith) h d)
+    (count-complete (suc (suc c)) r (decimal-spelt (suc (suc c)) (omega arith) (omega arith)) (decimal-five (suc (suc c)) (omega arith)) (omega arith) h d)
 
 count-sound : (t : List ℕ) {c : ℕ} {r : List ℕ} → readCount t ≡ got c r → (l : ℕ) → (l ∷ t ≡ pieceOf l c ++ r) × (c ≤ greatestCount)
 unfolding readCount

@@ -8,11 +8,10 @@ use lib.ListN.{length}
 use lib.Dec.{eqb, leb}
 use native.Mathlib.Omega.{arith}
 use borrow.Author.Tests.{le-leb, eq-eqb, ne-eqb, leb-true, eqb-true, eqb-false}
-use Rattle.index.specs.Text.{digitsOf, decimal}
+use Rattle.index.specs.Text.{decimal}
 use Rattle.index.specs.Reading.{digit, reaches, begins, ends, readDigits, readNumber}
 use Rattle.index.specs.Reading.Parsed.{got, wrong}
-use Rattle.index.proofs.Digits.{digits-long}
-use Rattle.index.proofs.Decimal.{first, digit-yes, digit-bounds, decimal-snoc, decimal-small, decimal-zero, spelt, value, value-ge, Digits, Spells}
+use Rattle.index.proofs.Decimal.{first, digit-yes, digit-bounds, decimal-snoc, decimal-small, decimal-zero, decimal-five, decimal-spelt, value, value-ge, Digits, Spells}
 use Rattle.index.proofs.Decimal.Digits.{none, next}
 use Rattle.index.proofs.Decimal.Spells.{spells}
 use Rattle.index.proofs.TakenApart.{guard-inv, cond-inv, and-true, not-got}
@@ -72,10 +71,10 @@ module _ (least most : ℕ) where
 
   pub number-complete : (n : ℕ) (r : List ℕ) → least ≤ n → n ≤ most → n < 100000 → digit (first r) ≡ false
       → readNumber least most (decimal n ++ r) ≡ got n r
-  unfolding decimal readNumber
-  number-complete ℕ.zero r l k j h = unfold digitsOf in simp (eq-eqb least 0 (omega arith))
+  unfolding readNumber
+  number-complete ℕ.zero r l k j h = rw decimal-zero (simp (eq-eqb least 0 (omega arith)))
   number-complete (suc n) r l k j h =
-      spells-complete (suc n) r (spelt 4 (suc n) (omega arith) (omega arith)) (digits-long 5 (suc n)) l k h
+      spells-complete (suc n) r (decimal-spelt (suc n) (omega arith) (omega arith)) (decimal-five (suc n) j) l k h
 
 -- what reading a number finds: v, with r left
 abbrev pub Number : ℕ → ℕ → List ℕ → ℕ → List ℕ → Type 0
@@ -85,7 +84,7 @@ pub one-digit : (n b : ℕ) → 10 * n + (b - 48) < 100000 → 1 ≤ n → digit
 one-digit n b k l e =
     let bd = digit-bounds b e in
     let bb : 48 + (b - 48) ≡ b = omega arith in
-    decimal-snoc n (b - 48) l k (omega arith) ∙ ap (λ (x : ℕ). decimal n ++ (x ∷ [])) bb
+    decimal-snoc n (b - 48) l (omega arith) (omega arith) ∙ ap (λ (x : ℕ). decimal n ++ (x ∷ [])) bb
 
 pub first-digit : (b : ℕ) → digit b ≡ true → decimal (10 * 0 + (b - 48)) ≡ b ∷ []
 first-digit b e =

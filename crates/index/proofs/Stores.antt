@@ -1,5 +1,5 @@
 -- Bytes that are written one after the other.
-use Prim.Native.Nat.{ℕ, suc, _+_, _≤_}
+use Prim.Native.Nat.{ℕ, suc, _+_}
 use mathlib.Core.Path.{_≡_, sym, ap, _∙_}
 use mathlib.Core.List.{List, [], _∷_, _++_}
 use lib.ListN.{length, set}
@@ -12,11 +12,6 @@ sets-append l i [] ws = let e : i + 0 ≡ i = omega arith in ap (λ (k : ℕ). s
 sets-append l i (a ∷ vs) ws =
     let e : suc i + length vs ≡ i + suc (length vs) = omega arith in
     sets-append (set l i a) (suc i) vs ws ∙ ap (λ (k : ℕ). sets (sets (set l i a) (suc i) vs) k ws) e
-
--- Once some bytes are written, the others are to be written after them.
-pub sets-next : (l : List ℕ) (i : ℕ) (vs ws : List ℕ) (m : List ℕ) (j : ℕ) → m ≡ sets l i vs → j ≡ i + length vs
-    → sets l i (vs ++ ws) ≡ sets m j ws
-sets-next l i vs ws m j e f = sets-append l i vs ws ∙ rw (e, f)
 
 pub sets-snoc : (l : List ℕ) (i : ℕ) (vs : List ℕ) (a : ℕ) → sets l i (vs ++ (a ∷ [])) ≡ set (sets l i vs) (i + length vs) a
 sets-snoc l i vs a = sets-append l i vs (a ∷ [])

@@ -1,19 +1,18 @@
 -- Laws of bytes that are written one after the other.
-use Prim.Native.Nat.{ℕ, suc, _+_, _-_, _*_, _<_, _≤_}
+use Prim.Native.Nat.{ℕ, suc, _+_, _-_, _<_, _≤_}
 use mathlib.Core.Path.{_≡_, refl, sym, ap, _∙_}
-use mathlib.Core.Bool.{Bool, true, false}
+use mathlib.Core.Bool.{Bool, true}
 use mathlib.Core.List.{List, [], _∷_, _++_}
 use lib.ListN.{length, drop, set, getD, length-append}
-use lib.Seq.{sets, length-sets}
+use lib.Seq.{length-sets}
 use native.Mathlib.Omega.{arith}
 use Rattle.index.proofs.Stores.{sets-append}
 use Rattle.index.specs.Letters.{letterCount, letters}
 use Rattle.index.specs.Block.{countAt}
-use Rattle.index.specs.Text.{decimal, pieceOf, piecesOf, countsAt, entryAt, entryText}
+use Rattle.index.specs.Text.{decimal, pieceOf, piecesOf, countsAt, entryAt}
 use Rattle.index.specs.Pieces.{nextText, rest}
 use Rattle.index.specs.Written.{Puts, entriesFrom}
 use Rattle.index.proofs.Range.{listed}
-use Rattle.index.proofs.Decimal.{decimal-five}
 use Rattle.index.proofs.ReadLetters.{piece-none, piece-one, piece-many}
 use Rattle.index.proofs.ReadSets.{eight-letters}
 use Rattle.index.proofs.SetText.{rest-next, rest-none}
@@ -69,11 +68,6 @@ text-one l n e = ap (pieceOf l) e ∙ piece-one l
 pub text-many : (l n : ℕ) → (n ≡ 0 → ⊥) → (n ≡ 1 → ⊥) → pieceOf l n ≡ l ∷ decimal n
 text-many l n h k = sym (piece-many l n (omega arith))
 
-pub piece-six : (l n : ℕ) → length (pieceOf l n) ≤ 6
-piece-six l ℕ.zero = omega (arith, ap length (piece-none l))
-piece-six l (suc ℕ.zero) = omega (arith, ap length (piece-one l))
-piece-six l (suc (suc n)) = omega (arith, ap length (piece-many l (suc (suc n)) (omega arith)), decimal-five (suc (suc n)))
-
 -- ---- the letters of a record from letter k on
 
 abbrev pub todo : List ℕ → ℕ → List ℕ
@@ -99,30 +93,6 @@ module _ (b : List ℕ) (i k : ℕ) where
   pub todo-none : k ≡ letterCount → todo (countsAt b i) k ≡ []
   unfolding piecesOf letters
   todo-none e = rw e
-
-todo-long : (b : List ℕ) (i d k : ℕ) → k + d ≡ letterCount → length (todo (countsAt b i) k) ≤ 6 * d
-todo-long b i ℕ.zero k e = omega (arith, ap length (todo-none b i k (omega arith)))
-todo-long b i (suc d) k e =
-    omega (
-      arith,
-      ap length (todo-step b i k (omega arith) (countAt b i k) refl),
-      length-append (pieceOf (getD letters k 0) (countAt b i k)) (todo (countsAt b i) (k + 1)),
-      piece-six (getD letters k 0) (countAt b i k),
-      todo-long b i d (k + 1) (omega arith),
-    )
-
--- ---- a record
-
-pub next-long : (begun : Bool) (b : List ℕ) (i : ℕ) → length (nextText begun (entryAt b i)) ≤ 55
-unfolding entryText
-next-long begun b i = go begun
-  where
-    long : length (entryText (entryAt b i)) ≤ 54
-    long = omega (arith, length-append (decimal (entryAt b i .id)) (59 ∷ piecesOf letters (countsAt b i)), decimal-five (entryAt b i .id), todo-long b i 8 0 (omega arith))
-
-    go : (begun : Bool) → length (nextText begun (entryAt b i)) ≤ 55
-    go true = omega (arith, long)
-    go false = omega (arith, long)
 
 -- ---- the records from number i up to number end
 

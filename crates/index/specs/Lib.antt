@@ -17,3 +17,4 @@ pub mod Edits
 pub mod Reading
 pub mod Pieces
 pub mod Written
+pub mod Longest

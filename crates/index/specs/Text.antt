@@ -16,14 +16,18 @@ pub record Entry : Type 0 where
 
 -- ---- what a set is written as
 
--- "in decimal without leading zeros", where n has at most d digits: the byte of the digit 0 is 48.
+-- The digits of n; where it has more than d, the last d. The byte of the digit 0 is 48.
 unfoldable pub digitsOf : ℕ → ℕ → List ℕ
 digitsOf ℕ.zero n = []
 digitsOf (suc d) n = cond (ltb n 10) ((48 + n) ∷ []) (digitsOf d (n / 10) ++ ((48 + n % 10) ∷ []))
 
--- An id or a count has at most 5 digits.
+-- A number of 64 bits has at most 20 digits.
+abbrev pub mostDigits : ℕ
+mostDigits = 20
+
+-- "in decimal without leading zeros"
 unfoldable pub decimal : ℕ → List ℕ
-decimal n = digitsOf 5 n
+decimal n = digitsOf mostDigits n
 
 -- "each letter with a count above zero in letter order, followed by the count in decimal if it is 2 or more"
 unfoldable pub pieceOf : ℕ → ℕ → List ℕ

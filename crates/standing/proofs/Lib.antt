@@ -1,4 +1,7 @@
-mod Decimals
-mod Fronts
-mod SetLines
-mod Goes
+-- The laws that belong to no one function.
+mod Lines
+mod Texts
+mod LinesBound
+mod StaysUsable
+mod Feeding
+mod OnePrint

@@ -1,4 +1,5 @@
 -- What the support desk reads.
 pub mod Printed
+pub mod Promised
 -- What only proofs need.
-pub mod Steps
+pub mod Room

@@ -1,21 +1,19 @@
--- `standing::letter_of` meets its contract.
-use borrow.Author.Tests.{eq-eqb, ne-eqb}
-use Rattle.index.specs.Message.{kindOf}
+-- `standing::letter_of` meets its contract, kind by kind.
+use mathlib.Core.Path.{sym, ap, _∙_}
+use borrow.Author.Needs.{needs}
 use Rattle.standing.specs.Printed.{kindLetter}
 use Rattle.standing.proofs.letter_of.Statement.{statement}
 use Rattle.standing.proofs.letter_of.Tie as tie
 
-returns : tie.Need-returns
-unfolding kindLetter kindOf
-returns c = simp (eq-eqb _ _ (c .if1 .taken))
-
-returns-2 : tie.Need-returns-2
-unfolding kindLetter kindOf
-returns-2 c = simp (ne-eqb _ _ (c .before .if1 .left), eq-eqb _ _ (c .if2 .taken))
-
-returns-3 : tie.Need-returns-3
-unfolding kindLetter kindOf
-returns-3 c = simp (ne-eqb _ _ (c .before .if1 .left), ne-eqb _ _ (c .if2 .left))
-
 pub letter-of-spec : {M : Type 1} → statement M
-letter-of-spec = tie.close (tie.spec returns returns-2 returns-3)
+unfolding kindLetter
+letter-of-spec =
+    tie.close
+    (tie.spec
+    (λ c κs. search needs)
+    (λ c. search needs)
+    (λ c. search needs)
+    (λ c. search needs)
+    (λ c. ap kindLetter (sym (c .enum-told .given .1) ∙ c .before .before .kind-of .ensures))
+    (λ c. ap kindLetter (sym (c .enum-told2 .given .1) ∙ c .before .before .kind-of .ensures))
+    (λ c. ap kindLetter (sym (c .enum-told3 .given .1) ∙ c .before .before .kind-of .ensures)))

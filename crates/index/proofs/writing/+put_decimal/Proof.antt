@@ -36,7 +36,7 @@ pub +put-decimal-spec : {M : Type 1} → statement M
     (λ c κs. omega arith)
     (λ c. omega arith)
     (λ c. omega arith)
-    (λ c κs. omega (arith, decimal-five (c .before .before .before .before .before .before .before .args .n / 10), c .before .before .before .put-decimal .ensures .ends))
+    (λ c κs. omega (arith, decimal-five (c .before .before .before .before .before .before .before .args .n / 10) (omega arith), c .before .before .before .put-decimal .ensures .ends))
     (λ c. search needs)
     (λ c.
     let n = c .before .before .before .before .before .before .before .before .before .before .args .n in

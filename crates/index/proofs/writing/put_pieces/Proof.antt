@@ -7,13 +7,15 @@ use lib.ListN.{getD}
 use borrow.Author.Needs.{needs}
 use Rattle.index.specs.Letters.{letterCount, letters}
 use Rattle.index.specs.Text.{pieceOf, countsAt}
-use Rattle.index.proofs.Writes.{Going, going-first, going-next, going-last, todo, todo-step, todo-none, piece-six}
+use Rattle.index.specs.Longest.{longestPiece}
+use Rattle.index.proofs.Writes.{Going, going-first, going-next, going-last, todo, todo-step, todo-none}
+use Rattle.index.proofs.TextBound.{piece-bound}
 use Rattle.index.proofs.writing.put_pieces.Statement.{statement}
 use Rattle.index.proofs.writing.put_pieces.Tie as tie
 
 abbrev Inv-loop : tie.InvT-loop
 Inv-loop out₀ at b i end₀ k₀ out end k =
-    (k ≤ letterCount) × (end ≤ at + 6 * k) × Going at (todo (countsAt b i) 0) out₀ end (todo (countsAt b i) k) out
+    (k ≤ letterCount) × (end ≤ at + longestPiece * k) × Going at (todo (countsAt b i) 0) out₀ end (todo (countsAt b i) k) out
 
 abbrev μ-loop : tie.MeasureT-loop
 μ-loop out₀ at b i end₀ k₀ out end k = letterCount - k
@@ -28,7 +30,7 @@ loop-again c =
     let k = c .before .before .before .before .before .before .loop .k in
     let n : ℕ = c .before .before .before .count-at .result in (
       omega arith,
-      omega (arith, piece-six (getD letters k 0) n, c .before .before .put-piece .ensures .ends),
+      omega (arith, piece-bound (getD letters k 0) n (omega arith), c .before .before .put-piece .ensures .ends),
       going-next (pieceOf (getD letters k 0) n) (todo (countsAt b i) (k + 1)) (c .before .before .before .before .before .before .loop .inv .2) (todo-step b i k (c .before .before .before .before .before .loop-test .taken) n (c .before .before .before .count-at .ensures .is)) (c .before .before .put-piece .ensures),
     )
 

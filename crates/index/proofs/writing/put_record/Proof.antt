@@ -12,10 +12,10 @@ use Rattle.index.proofs.writing.put_record.Statement.{statement}
 use Rattle.index.proofs.writing.put_record.Tie as tie
 
 put-byte-requires : tie.Need-put-byte-requires
-put-byte-requires c κs = omega (arith, decimal-five (c .before .before .before .before .id-at .result), c .before .before .before .put-decimal .ensures .ends)
+put-byte-requires c κs = omega (arith, decimal-five (c .before .before .before .before .id-at .result) (omega arith), c .before .before .before .put-decimal .ensures .ends)
 
 put-pieces-requires : tie.Need-put-pieces-requires
-put-pieces-requires c κs = omega (arith, decimal-five (c .before .before .before .before .before .before .before .before .id-at .result), c .before .before .before .before .before .before .before .put-decimal .ensures .ends, c .before .before .before .put-byte .ensures .ends)
+put-pieces-requires c κs = omega (arith, decimal-five (c .before .before .before .before .before .before .before .before .id-at .result) (omega arith), c .before .before .before .before .before .before .before .put-decimal .ensures .ends, c .before .before .before .put-byte .ensures .ends)
 
 returns : tie.Need-returns
 unfolding entryText

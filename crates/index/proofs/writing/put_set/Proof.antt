@@ -10,7 +10,9 @@ use borrow.Author.Needs.{needs}
 use Rattle.index.specs.Text.{entryAt, textOf}
 use Rattle.index.specs.Pieces.{nextText, rest}
 use Rattle.index.specs.Written.{entriesFrom}
-use Rattle.index.proofs.Writes.{Going, going-first, going-next, going-last, rest-here, rest-end, next-long}
+use Rattle.index.specs.Longest.{longestRecord}
+use Rattle.index.proofs.Writes.{Going, going-first, going-next, going-last, rest-here, rest-end}
+use Rattle.index.proofs.TextBound.{next-bound}
 use Rattle.index.proofs.writing.put_set.Statement.{statement}
 use Rattle.index.proofs.writing.put_set.Tie as tie
 
@@ -18,7 +20,7 @@ abbrev Inv-loop : tie.InvT-loop
 Inv-loop out₀ b first end at₀ i₀ out at i =
     (first ≤ i)
     × (i ≤ end)
-    × (at ≤ 55 * i)
+    × (at ≤ longestRecord * i)
     × Going 0 (textOf (entriesFrom b first (end - first))) out₀ at (rest (ltb first i) (entriesFrom b i (end - i))) out
 
 abbrev μ-loop : tie.MeasureT-loop
@@ -38,7 +40,7 @@ loop-again c =
     let begun : Bool = ltb first i in (
       omega arith,
       omega arith,
-      omega (arith, next-long begun b i, c .before .before .put-next .ensures .ends),
+      omega (arith, next-bound b (λ j. c .before .before .before .before .before .before .shared-slice-known .given j .fits) begun i, c .before .before .put-next .ensures .ends),
       rw (lt-ltb first (i + 1) (omega arith))
           (going-next (nextText begun (entryAt b i)) (rest true (entriesFrom b (i + 1) (end - (i + 1)))) (c .before .before .before .before .before .loop .inv .3) (rest-here b begun i end (c .before .before .before .before .loop-test .taken)) (c .before .before .put-next .ensures)),
     )
