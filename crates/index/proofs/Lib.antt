@@ -35,7 +35,6 @@ pub mod ReadLetters
 pub mod ReadNumbers
 pub mod ReadSets
 pub mod ReadSteps
-pub mod RecordWritten
 pub mod Records
 pub mod Recount
 pub mod Replacing

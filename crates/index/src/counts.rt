@@ -5,8 +5,8 @@ use crate::LETTER_COUNT;
 use crate::numbers::count_at;
 use crate::numbers::put_count;
 ghost use mathlib.Core.Path.{_≡_};
-ghost use Prim.Native.Nat.{_+_, _<_, _≤_};
-ghost use lib.ListN.{length};
+ghost use Prim.Native.Nat.{ℕ, _+_, _<_, _≤_};
+ghost use lib.ListN.{length, getD};
 ghost use Rattle.index.specs.Letters.{letterCount};
 ghost use Rattle.index.specs.Block.{place};
 ghost use Rattle.index.specs.Checks.{Says};
@@ -18,6 +18,19 @@ fn bit_of(mask: usize, k: usize) -> usize
     ensures { λ r. ⌜ (r ≡ bit mask k) × (r < 2) ⌝ }
 {
     (mask >> k) % 2
+}
+
+// The counts of a new record: 1 for each letter of the mask.
+pub(crate) fn once(mask: usize) -> [usize; LETTER_COUNT]
+    ensures { λ r. ⌜ (length r ≡ letterCount) × ((k : ℕ) → k < letterCount → getD r k 0 ≡ bit mask k) ⌝ }
+{
+    let mut counts = [0usize; LETTER_COUNT];
+    let mut k = 0;
+    while k < LETTER_COUNT {
+        counts[k] = bit_of(mask, k);
+        k += 1;
+    }
+    counts
 }
 
 // Each count of record i can do without one for each letter of `less` and with one for each letter of `more`.

@@ -1,17 +1,16 @@
 // One half is taken away or put in.
 
-use crate::HEADER;
 use crate::Kind;
 use crate::RECORD;
 use crate::counts::allows;
 use crate::counts::left_over;
+use crate::counts::once;
 use crate::counts::recount;
-use crate::moves::clear;
 use crate::moves::splice;
 use crate::numbers::number_at;
-use crate::numbers::put_number;
 use crate::places::Found;
 use crate::places::find;
+use crate::taking::put_entry;
 ghost use Prim.Native.Nat.{_+_, _≤_};
 ghost use lib.ListN.{length};
 ghost use Rattle.index.specs.Block.{IsName, place, key, id, Of};
@@ -24,11 +23,8 @@ fn put_record(b: &mut [u8], i: usize, x: usize, y: usize, mask: usize)
     requires { ⌜ (place (i + 1) ≤ length (now b)) × IsName x × IsName y ⌝ }
     ensures { λ _. ⌜ NewRecord i x y mask (now (b .entry)) (now (b .exit)) ⌝ }
 {
-    let at = HEADER + RECORD * i;
-    put_number(b, at, x);
-    put_number(b, at + 2, y);
-    clear(b, at + 4, at + RECORD);
-    recount(b, i, 0, mask);
+    let counts = once(mask);
+    put_entry(b, i, x, y, &counts);
 }
 
 // Each letter of the mask goes down by one in record i, of the kind, and a record with no count left is removed. It is 6

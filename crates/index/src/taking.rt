@@ -20,7 +20,13 @@ ghost use Rattle.index.specs.Pieces.{Scanned};
 ghost use Rattle.index.specs.Written.{Entered, Filled};
 
 // Writes record i of a block.
-fn put_entry(b: &mut [u8], i: usize, key: usize, name: usize, counts: &[usize; LETTER_COUNT])
+pub(crate) fn put_entry(
+    b: &mut [u8],
+    i: usize,
+    key: usize,
+    name: usize,
+    counts: &[usize; LETTER_COUNT],
+)
     requires { ⌜ (key < 65536) × (name < 65536) × (place (i + 1) ≤ length (now b)) ⌝ }
     requires { ⌜ (length (now counts) ≡ letterCount) × ((k : ℕ) → getD (now counts) k 0 ≤ 65535) ⌝ }
     ensures { λ _. ⌜ Entered key i (record { id = name; counts = now (counts .entry) }) (now (b .entry)) (now (b .exit)) ⌝ }

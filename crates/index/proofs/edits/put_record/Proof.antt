@@ -1,31 +1,35 @@
 -- A record is its key, its id and its counts.
+use Prim.Native.Nat.{ℕ, _≤_}
+use mathlib.Core.Path.{_≡_, refl, sym, ap, _∙_}
+use mathlib.Core.Logic.{⊎-elim}
+use native.Mathlib.Omega.{arith}
 use borrow.Author.Needs.{needs}
-use Rattle.index.proofs.RecordWritten.{cleared-allows, written-is}
+use lib.ListN.{getD, List·getD-eq-default}
+use Rattle.index.specs.Letters.{letterCount}
+use Rattle.index.specs.Block.{greatestCount}
+use Rattle.index.specs.Text.{Entry}
+use Rattle.index.proofs.Range.{lt-or-le}
+use Rattle.index.proofs.Writes.{counts-each}
 use Rattle.index.proofs.edits.put_record.Statement.{statement}
 use Rattle.index.proofs.edits.put_record.Tie as tie
 
-recount-requires : tie.Need-recount-requires
-recount-requires c κs =
-    let s = c .before .before .before .before .before .before .before .before .before .before .before .before .before .before in
-    (search needs, cleared-allows (s .args .i) (c .before .before .before .clear .ensures) (s .args .mask))
+put-entry-requires : tie.Need-put-entry-requires
+put-entry-requires c κs =
+    let p = c .before .before .before .before .pre in
+    let o = c .before .before .once in
+    let few : (k : ℕ) → getD (o .result) k 0 ≤ greatestCount = λ k.
+    ⊎-elim (λ l. omega (arith, o .ensures .1 k l)) (λ l. omega (arith, List·getD-eq-default (o .result) 0 {n = k} (omega (arith, o .ensures .0)))) (lt-or-le k letterCount) in
+    ((omega (arith, p .1), omega (arith, p .2), p .0), (o .ensures .0, few))
 
 returns : tie.Need-returns
 returns c =
-    written-is
-    (c .before .before .before .before .before .before .before .before .before .before .before .before .before .before .before .before .before .args .i) (c .before .before .before .before .before .before .clear .ensures) (c .before .before .before .before .before .before .before .before .before .before .before .before .before .before .put-number .ensures) (c .before .before .before .before .before .before .before .before .before .before .put-number2 .ensures) (c .before .before .recount .ensures)
+    let e = c .before .before .put-entry .ensures in
+    record {
+      rest = e .rest;
+      new-key = e .stands .has-key;
+      new-id = ap (λ (f : Entry). f .id) (e .stands .is);
+      counts = λ k l. sym (counts-each _ _ k l) ∙ ap (λ (f : Entry). getD (f .counts) k 0) (e .stands .is) ∙ c .before .before .before .before .before .once .ensures .1 k l;
+    }
 
 pub put-record-spec : {M : Type 1} → statement M
-put-record-spec =
-    tie.close
-    (tie.spec
-    (λ c. search needs)
-    (λ c. search needs)
-    (λ c κs. search needs)
-    (λ c. search needs)
-    (λ c κs. search needs)
-    (λ c. search needs)
-    (λ c. search needs)
-    (λ c κs. search needs)
-    recount-requires
-    (λ c. search needs)
-    returns)
+put-record-spec = tie.close (tie.spec (λ c κs. search needs) put-entry-requires (λ c. search needs) returns)

@@ -1,12 +1,11 @@
 -- `index::letters::letter_bytes` meets its contract. The loop's invariant: the first k bytes are those of the first k letters.
 use Prim.Native.Nat.{ℕ, _-_, _<_, _≤_}
-use mathlib.Core.Path.{_≡_, refl, _∙_}
+use mathlib.Core.Path.{_≡_, refl}
 use native.Mathlib.Omega.{arith}
-use borrow.Author.Count.{below-more}
 use borrow.Author.Needs.{needs}
 use lib.ListN.{length, getD, length-set}
-use lib.Seq.{getD-set-same, getD-set-other}
 use Rattle.index.specs.Letters.{letterCount, letters}
+use Rattle.index.proofs.Range.{set-below}
 use Rattle.index.proofs.letters.letter_bytes.Statement.{statement}
 use Rattle.index.proofs.letters.letter_bytes.Tie as tie
 
@@ -26,8 +25,7 @@ loop-again c =
     let h = c .before .loop-test .taken in (
       omega arith,
       simp length-set (l .inv .1),
-      below-more _ _ (λ j m. getD-set-other (l .bytes) (l .k) j _ 0 (omega arith) ∙ l .inv .2 j m)
-          (getD-set-same (l .bytes) (l .k) _ 0 (omega (arith, l .inv .1)) ∙ c .letter-at .ensures .1),
+      set-below (l .bytes) (λ j. getD letters j 0) (l .k) _ (omega (arith, l .inv .1)) (l .inv .2) (c .letter-at .ensures .1),
     )
 
 returns : tie.Need-returns Inv-loop μ-loop
