@@ -40,6 +40,10 @@ pub mod raw {
         pub fn anaqsiro_may(block: *const u8, len: usize, user: u64, object: u64, request: u64) -> u64;
         pub fn anaqsiro_write(block: *const u8, len: usize, kind: u64, key: u64, out: *mut u8, out_len: usize) -> u64;
         pub fn anaqsiro_read(block: *mut u8, len: usize, kind: u64, key: u64, text: *const u8, text_len: usize) -> u64;
+        pub fn anaqsiro_tested(block: *const u8, len: usize) -> u64;
+        pub fn anaqsiro_size(block: *const u8, len: usize, kind: u64) -> u64;
+        pub fn anaqsiro_record(block: *const u8, len: usize, number: u64) -> u64;
+        pub fn anaqsiro_count(block: *const u8, len: usize, number: u64, letter: u64) -> u64;
     }
 }
 
@@ -415,6 +419,22 @@ mod tests {
                 Some(kind) => on(block, |block| block.read_set(kind, key, text)),
                 None => unsafe { raw::anaqsiro_read(block.as_mut_ptr(), block.len(), kind, key, text.as_ptr(), text.len()) },
             }
+        }
+
+        fn tested(&self, block: &[u8]) -> u64 {
+            unsafe { raw::anaqsiro_tested(block.as_ptr(), block.len()) }
+        }
+
+        fn size(&self, block: &[u8], kind: u64) -> u64 {
+            unsafe { raw::anaqsiro_size(block.as_ptr(), block.len(), kind) }
+        }
+
+        fn record(&self, block: &[u8], number: u64) -> u64 {
+            unsafe { raw::anaqsiro_record(block.as_ptr(), block.len(), number) }
+        }
+
+        fn count(&self, block: &[u8], number: u64, letter: u64) -> u64 {
+            unsafe { raw::anaqsiro_count(block.as_ptr(), block.len(), number, letter) }
         }
     }
 
