@@ -1,3 +1,7 @@
 //! The tests of the crate from outside, all in one program.
 
+mod blocks;
 mod build;
+mod compared;
+mod letters;
+mod messages;
