@@ -49,7 +49,7 @@ impl Block {
         Block { bytes }
     }
 
-    /// The bytes, which can be stored and sent as they are.
+    /// The bytes, which can be stored and sent as they are. [`Block::save`] adds what tells a damaged block from a whole one.
     pub fn bytes(&self) -> &[u8] {
         &self.bytes
     }

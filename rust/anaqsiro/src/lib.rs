@@ -28,7 +28,7 @@
 //! # Ok::<(), anaqsiro::Refusal>(())
 //! ```
 //!
-//! - [`Block`]: messages, the two questions, sets as text, and the records.
+//! - [`Block`]: messages, the two questions, sets as text, the records, and saving it with a checksum.
 //! - [`Rights`] and [`Letters`]: what a question asks for, and what a message gives or denies.
 //!
 //! The answers of the block are those of the archive, which is proved; this crate around it is tested.
@@ -39,9 +39,11 @@ mod message;
 pub mod raw;
 mod records;
 mod refusal;
+mod saved;
 
 pub use block::Block;
 pub use letters::{Letters, NotLetters, Rights};
 pub use message::{Half, Kind, Message, Name, NAMES};
 pub use records::{Record, Records};
 pub use refusal::Refusal;
+pub use saved::NotLoaded;

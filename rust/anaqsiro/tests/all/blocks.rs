@@ -71,6 +71,7 @@ fn a_block_that_is_not_good_is_refused_everywhere() {
         assert_eq!(block.mentions(1024).err(), Some(refusal));
         assert_eq!(block.grow(4), Err(refusal));
         assert_eq!(block.grow(4_096), Err(refusal));
+        assert_eq!(block.save(), Err(refusal));
         assert_eq!(block.apply([0u8; 3]), Err(refusal));
         assert_eq!(block, before);
     }

@@ -5,3 +5,4 @@ mod build;
 mod compared;
 mod letters;
 mod messages;
+mod saved;
