@@ -103,7 +103,8 @@ impl Block {
         answer(unsafe { raw::anaqsiro_make(self.bytes.as_mut_ptr(), self.bytes.len()) }).map(drop)
     }
 
-    /// Applies a message: takes the previous half away, then adds the new one.
+    /// Applies a message: takes the previous half away, then adds the new one. The block does not know statements; a
+    /// [`Ledger`](crate::Ledger) does, and applies each message in its turn.
     pub fn apply(&mut self, message: impl AsRef<[u8]>) -> Result<(), Refusal> {
         let message = message.as_ref();
         // SAFETY: each pointer and length are those of one slice; the borrows keep the two apart.

@@ -29,11 +29,14 @@
 //! ```
 //!
 //! - [`Block`]: messages, the two questions, sets as text, the records, and saving it with a checksum.
+//! - [`Ledger`]: a block with its statements. Use it where messages may arrive out of order, twice or late, or where nobody
+//!   else keeps what each statement said last.
 //! - [`Rights`] and [`Letters`]: what a question asks for, and what a message gives or denies.
 //!
 //! The answers of the block are those of the archive, which is proved; this crate around it is tested.
 
 mod block;
+mod ledger;
 mod letters;
 mod message;
 pub mod raw;
@@ -42,6 +45,7 @@ mod refusal;
 mod saved;
 
 pub use block::Block;
+pub use ledger::{Ledger, NotTaken, Said, Statement, Taken, Waiting, Why};
 pub use letters::{Letters, NotLetters, Rights};
 pub use message::{Half, Kind, Message, Name, NAMES};
 pub use records::{Record, Records};

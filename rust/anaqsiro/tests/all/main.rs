@@ -3,6 +3,8 @@
 mod blocks;
 mod build;
 mod compared;
+mod ledgers;
 mod letters;
 mod messages;
 mod saved;
+mod streams;
