@@ -75,6 +75,10 @@ functions! {
     may = anaqsiro_may: unsafe extern "C" fn(*const u8, usize, u64, u64, u64) -> u64,
     write = anaqsiro_write: unsafe extern "C" fn(*const u8, usize, u64, u64, *mut u8, usize) -> u64,
     read = anaqsiro_read: unsafe extern "C" fn(*mut u8, usize, u64, u64, *const u8, usize) -> u64,
+    tested = anaqsiro_tested: unsafe extern "C" fn(*const u8, usize) -> u64,
+    size = anaqsiro_size: unsafe extern "C" fn(*const u8, usize, u64) -> u64,
+    record = anaqsiro_record: unsafe extern "C" fn(*const u8, usize, u64) -> u64,
+    count = anaqsiro_count: unsafe extern "C" fn(*const u8, usize, u64, u64) -> u64,
 }
 
 // SAFETY: each pointer and length below are those of one slice, borrowed for the call.
@@ -101,5 +105,21 @@ impl Library for Archive {
 
     fn read(&self, block: &mut [u8], kind: u64, key: u64, text: &[u8]) -> u64 {
         unsafe { (self.read)(block.as_mut_ptr(), block.len(), kind, key, text.as_ptr(), text.len()) }
+    }
+
+    fn tested(&self, block: &[u8]) -> u64 {
+        unsafe { (self.tested)(block.as_ptr(), block.len()) }
+    }
+
+    fn size(&self, block: &[u8], kind: u64) -> u64 {
+        unsafe { (self.size)(block.as_ptr(), block.len(), kind) }
+    }
+
+    fn record(&self, block: &[u8], number: u64) -> u64 {
+        unsafe { (self.record)(block.as_ptr(), block.len(), number) }
+    }
+
+    fn count(&self, block: &[u8], number: u64, letter: u64) -> u64 {
+        unsafe { (self.count)(block.as_ptr(), block.len(), number, letter) }
     }
 }

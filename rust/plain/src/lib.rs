@@ -18,6 +18,8 @@ pub const RECORD: usize = COUNTS + 2 * LETTERS.len();
 const COUNTS: usize = 4;
 pub const ROOM: usize = 2048;
 pub const GREATEST: usize = HEADER + ROOM * RECORD;
+/// The greatest number of a record that can be asked for by its number.
+const LAST: u64 = 65_535;
 /// A message: kind and flags, then two halves of five bytes.
 pub const MESSAGE: usize = NEW + HALF;
 pub const OLD: usize = 2;
@@ -436,6 +438,37 @@ pub fn read(b: &mut [u8], kind: u64, key: u64, text: &[u8]) -> (u32, u32) {
     (0, records as u32)
 }
 
+/// The 16-bit number at `at` of any bytes; those past the end are 0.
+fn word_in(b: &[u8], at: usize) -> u32 {
+    match b.get(at..) {
+        Some([low, high, ..]) => u16::from_le_bytes([*low, *high]).into(),
+        Some([low]) => (*low).into(),
+        _ => 0,
+    }
+}
+
+pub fn size(b: &[u8], kind: u64) -> (u32, u32) {
+    match kind {
+        1..=3 => (0, word_in(b, 2 * (kind as usize - 1))),
+        _ => (3, 0),
+    }
+}
+
+pub fn record(b: &[u8], number: u64) -> u32 {
+    if number > LAST {
+        return 0;
+    }
+    let at = place(number as usize);
+    word_in(b, at) | word_in(b, at + 2) << 16
+}
+
+pub fn count(b: &[u8], number: u64, letter: u64) -> u32 {
+    if number > LAST || letter >= LETTERS.len() as u64 {
+        return 0;
+    }
+    word_in(b, count_at(number as usize, letter as usize))
+}
+
 /// The calls as the C interface has them.
 pub struct Plain;
 
@@ -466,5 +499,22 @@ impl Library for Plain {
     fn read(&self, block: &mut [u8], kind: u64, key: u64, text: &[u8]) -> u64 {
         let (number, value) = read(block, kind, key, text);
         packed(number, value)
+    }
+
+    fn tested(&self, block: &[u8]) -> u64 {
+        packed(tested(block), 0)
+    }
+
+    fn size(&self, block: &[u8], kind: u64) -> u64 {
+        let (number, value) = size(block, kind);
+        packed(number, value)
+    }
+
+    fn record(&self, block: &[u8], number: u64) -> u64 {
+        packed(0, record(block, number))
+    }
+
+    fn count(&self, block: &[u8], number: u64, letter: u64) -> u64 {
+        packed(0, count(block, number, letter))
     }
 }

@@ -2,10 +2,11 @@
 //! guard bytes around each buffer. A run keeps count of what it met, and says what it should have met and did not.
 
 use crate::gen::{self, Rng};
-use crate::{granted, letters, passes, word, Index, ALL, CHAIN, HEADER, KINDS, LETTERS, M, NAMES};
+use crate::{granted, letters, passes, word, Index, ALL, CHAIN, COUNTS, HEADER, KINDS, LAST, LETTERS, M, NAMES, RECORD};
 use std::collections::{BTreeMap, BTreeSet};
+use std::ops::Range;
 
-/// The six calls, each returning the refusal's number times 2^32 plus a value, as the C interface does.
+/// The calls, each returning the refusal's number times 2^32 plus a value, as the C interface does.
 pub trait Library {
     fn make(&self, block: &mut [u8]) -> u64;
     fn message(&self, block: &mut [u8], message: &[u8]) -> u64;
@@ -13,6 +14,10 @@ pub trait Library {
     fn may(&self, block: &[u8], user: u64, object: u64, request: u64) -> u64;
     fn write(&self, block: &[u8], kind: u64, key: u64, out: &mut [u8]) -> u64;
     fn read(&self, block: &mut [u8], kind: u64, key: u64, text: &[u8]) -> u64;
+    fn tested(&self, block: &[u8]) -> u64;
+    fn size(&self, block: &[u8], kind: u64) -> u64;
+    fn record(&self, block: &[u8], number: u64) -> u64;
+    fn count(&self, block: &[u8], number: u64, letter: u64) -> u64;
 }
 
 /// A number and a value as the calls return them.
@@ -77,6 +82,22 @@ const TO_MEET: &[(&str, &str, &[i64])] = &[
     ("read", "kind accepted, with a text", &[1, 2, 3]),
     ("read", "kind refused for its text", &[1, 2, 3]),
     ("read", "records more, or fewer", &[-1, 0, 1]),
+    ("tested", "number", &[0, 1, 2]),
+    ("size", "number", &[0, 3]),
+    ("size", "number of the block that it reads", &[0, 1, 2]),
+    ("size", "bytes that the block has of it", &[0, 1, 2]),
+    ("size", "kind with records", &[1, 2, 3]),
+    ("record", "number", &[0]),
+    ("record", "number of the block that it reads", &[0, 1, 2]),
+    ("record", "bytes that the block has of it", &[0, 1, 2, 3, 4]),
+    ("record", "kind of a record", &[1, 2, 3]),
+    ("record", "number too great, that names a record by its last bits", &[16, 32]),
+    ("count", "number", &[0]),
+    ("count", "number of the block that it reads", &[0, 1, 2]),
+    ("count", "bytes that the block has of it", &[0, 1, 2]),
+    ("count", "letter counted", &[0, 1, 2, 3, 4, 5, 6, 7]),
+    ("count", "letter that there is not, before a record with key and id", &[8]),
+    ("count", "number too great, that names a record by its last bits", &[16, 32]),
 ];
 
 /// How often a run met what.
@@ -244,7 +265,7 @@ impl Call<'_> {
             2 => full + self.rng.below(5) as usize,
             _ => self.rng.below(64) as usize,
         };
-        let out: Vec<u8> = (0..room).map(|_| self.rng.next() as u8).collect();
+        let out: Vec<u8> = (0..room).map(|_| self.rng.bits() as u8).collect();
         let (number, value, after) = crate::write(self.block, kind, key, &out);
         let (mut b, mut lent) = (Lent::new(self.block), Lent::new(&out));
         let got = self.lib.write(b.lend(), kind, key, lent.lend());
@@ -279,16 +300,108 @@ impl Call<'_> {
     }
 }
 
+/// The test of a block, and the doors to its records.
+impl Call<'_> {
+    fn tested(&mut self) -> Result<Vec<u8>, String> {
+        let number = crate::tested(self.block);
+        let mut b = Lent::new(self.block);
+        let got = self.lib.tested(b.lend());
+        self.agree(got, number, 0, &[(&b, self.block)], String::new())?;
+        Ok(self.block.to_vec())
+    }
+
+    /// The block, or often its front alone, cut somewhere about the bytes that a call reads: the doors take any bytes.
+    fn front(&mut self, read: &Range<usize>) -> Vec<u8> {
+        let cut = read.start + self.rng.below(read.len() as u64 + 1) as usize;
+        let end = if self.rng.one_in(3) { cut.min(self.block.len()) } else { self.block.len() };
+        self.block[..end].to_vec()
+    }
+
+    /// What came back from a door to a block of these bytes, against what the second program says.
+    fn door(&mut self, bytes: &[u8], read: Range<usize>, second: (u32, u32), words: String, lib: Door) -> Result<(), String> {
+        let mut b = Lent::new(bytes);
+        let got = lib(self.lib, b.lend());
+        let words = format!("{words} on the first {} bytes", bytes.len());
+        self.agree(got, second.0, second.1, &[(&b, bytes)], words)?;
+        self.saw("number of the block that it reads", crate::tested(bytes).into());
+        self.saw("bytes that the block has of it", read.filter(|&at| at < bytes.len()).count() as i64);
+        Ok(())
+    }
+
+    fn size(&mut self) -> Result<Vec<u8>, String> {
+        let kind = gen::number(self.rng, KINDS as u64 + 1);
+        let at = 2 * (kind as usize).wrapping_sub(1).min(KINDS - 1);
+        let bytes = self.front(&(at..at + 2));
+        let second = crate::size(&bytes, kind);
+        self.door(&bytes, at..at + 2, second, format!("{kind}"), &|lib, b| lib.size(b, kind))?;
+        if second.1 > 0 {
+            self.saw("kind with records", kind as i64);
+        }
+        Ok(self.block.to_vec())
+    }
+
+    /// The number of a record, and where the record is in a block that goes so far.
+    fn numbered(&mut self) -> (u64, usize) {
+        let number = gen::record(self.rng, self.index);
+        (number, HEADER + RECORD * number.min(LAST) as usize)
+    }
+
+    /// A number that is too great, where as many of its last bits would be the number of a record.
+    fn saw_great(&mut self, bytes: &[u8], number: u64) {
+        for bits in [16, 32] {
+            if number > LAST && number >> bits > 0 && crate::record(bytes, number % (1 << bits)).1 > 0 {
+                self.saw("number too great, that names a record by its last bits", bits);
+            }
+        }
+    }
+
+    fn record(&mut self) -> Result<Vec<u8>, String> {
+        let (number, at) = self.numbered();
+        let bytes = self.front(&(at..at + COUNTS));
+        let second = crate::record(&bytes, number);
+        self.door(&bytes, at..at + COUNTS, second, format!("{number}"), &|lib, b| lib.record(b, number))?;
+        self.saw_great(&bytes, number);
+        if let Some(part) = index_of(&bytes).part_of_record(number) {
+            self.saw("kind of a record", part as i64 + 1);
+        }
+        Ok(self.block.to_vec())
+    }
+
+    fn count(&mut self) -> Result<Vec<u8>, String> {
+        let (number, start) = self.numbered();
+        let letter = gen::number(self.rng, LETTERS.len() as u64);
+        let at = start + COUNTS + 2 * letter.min(LETTERS.len() as u64) as usize;
+        let bytes = self.front(&(at..at + 2));
+        let second = crate::count(&bytes, number, letter);
+        self.door(&bytes, at..at + 2, second, format!("{number} {letter}"), &|lib, b| lib.count(b, number, letter))?;
+        self.saw_great(&bytes, number);
+        if second.1 > 0 {
+            self.saw("letter counted", letter as i64);
+        }
+        if letter == LETTERS.len() as u64 && crate::record(&bytes, number.saturating_add(1)).1 > 0 {
+            self.saw("letter that there is not, before a record with key and id", letter as i64);
+        }
+        Ok(self.block.to_vec())
+    }
+}
+
+/// A door to a block, as a library is asked.
+type Door<'a> = &'a dyn Fn(&dyn Library, &[u8]) -> u64;
+
 type Made = fn(&mut Call) -> Result<Vec<u8>, String>;
 
-/// The calls by name, each as often as it is drawn among ten.
-const CALLS: [(&str, u64, Made); 6] = [
+/// The calls by name, each as often as it is drawn among fourteen.
+const CALLS: [(&str, u64, Made); 10] = [
     ("make", 1, |call| call.make()),
     ("message", 3, |call| call.message()),
     ("rights", 2, |call| call.rights()),
     ("may", 1, |call| call.may()),
     ("write", 1, |call| call.write()),
     ("read", 2, |call| call.read()),
+    ("tested", 1, |call| call.tested()),
+    ("size", 1, |call| call.size()),
+    ("record", 1, |call| call.record()),
+    ("count", 1, |call| call.count()),
 ];
 
 /// Makes one call on the block; the block that the next is made on.

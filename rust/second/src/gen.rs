@@ -1,14 +1,15 @@
 //! Seeded cases: good blocks of every shape, damage of every kind, and calls that provoke each refusal on purpose.
 
 use crate::{letters, text, Counts, Index};
-use crate::{ALL, CHAIN, COUNTS, F, GREATEST, HALF, HALVES, HEADER, KINDS, LETTERS, M, MESSAGE, NAMES, P, RECORD, RIGHTS, ROOM};
+use crate::{ALL, CHAIN, COUNTS, F, GREATEST, HALF, HALVES, HEADER, KINDS, LAST, LETTERS};
+use crate::{M, MESSAGE, NAMES, P, RECORD, RIGHTS, ROOM};
 use std::collections::BTreeMap;
 
 /// A small seeded generator (splitmix64).
 pub struct Rng(pub u64);
 
 impl Rng {
-    pub fn next(&mut self) -> u64 {
+    pub fn bits(&mut self) -> u64 {
         self.0 = self.0.wrapping_add(0x9E37_79B9_7F4A_7C15);
         let mut z = self.0;
         z = (z ^ z >> 30).wrapping_mul(0xBF58_476D_1CE4_E5B9);
@@ -17,7 +18,7 @@ impl Rng {
     }
 
     pub fn below(&mut self, n: u64) -> u64 {
-        self.next() % n
+        self.bits() % n
     }
 
     pub fn one_in(&mut self, n: u64) -> bool {
@@ -34,7 +35,7 @@ fn count(rng: &mut Rng) -> u16 {
         0 => u16::MAX,
         1 => u16::MAX - 1,
         2 => 2,
-        3 => rng.next() as u16,
+        3 => rng.bits() as u16,
         _ => 1,
     }
 }
@@ -200,7 +201,7 @@ pub fn damage(rng: &mut Rng, block: &mut Vec<u8>) {
 
 /// Bytes with no plan.
 pub fn bytes(rng: &mut Rng, most: u64) -> Vec<u8> {
-    (0..rng.below(most + 1)).map(|_| rng.next() as u8).collect()
+    (0..rng.below(most + 1)).map(|_| rng.bits() as u8).collect()
 }
 
 /// A record of the block, or a name that it may not have.
@@ -227,7 +228,7 @@ pub fn message(rng: &mut Rng, index: &Index) -> Vec<u8> {
         last = Some(name);
         let counted = index.parts[kind].get(&name).map(|c| (0..c.len()).filter(|&k| c[k] > 0).map(|k| 1u8 << k).sum::<u8>());
         let mask = match counted {
-            Some(mask) if !rng.one_in(4) => (mask & rng.next() as u8).max(mask & mask.wrapping_neg()),
+            Some(mask) if !rng.one_in(4) => (mask & rng.bits() as u8).max(mask & mask.wrapping_neg()),
             _ => 1 + rng.below((1 << lettered(kind)) - 1) as u8,
         };
         m.extend(name.0.to_le_bytes());
@@ -240,10 +241,10 @@ pub fn message(rng: &mut Rng, index: &Index) -> Vec<u8> {
         1 => m[1] = rng.pick(&[0, 4, 7]),
         2 => m.truncate(rng.below(MESSAGE as u64) as usize),
         3 => m.push(0),
-        4 => m[HALVES + rng.below(2 * HALF as u64) as usize] = rng.next() as u8,
+        4 => m[HALVES + rng.below(2 * HALF as u64) as usize] = rng.bits() as u8,
         5 | 6 => m[half + rng.pick(&[1, 3])] = (NAMES >> 8) as u8,
         7 | 8 => m[half + HALF - 1] = rng.pick(&[0, ALL as u8 + 1, 255]),
-        9 => m[rng.below(2) as usize] = rng.next() as u8,
+        9 => m[rng.below(2) as usize] = rng.bits() as u8,
         _ => {}
     }
     m
@@ -258,6 +259,18 @@ pub fn number(rng: &mut Rng, limit: u64) -> u64 {
         3 => u64::MAX,
         4 => rng.below(limit),
         _ => rng.below(limit.min(12)),
+    }
+}
+
+/// The number of a record: mostly of one that the block has, sometimes just past them, sometimes too great.
+pub fn record(rng: &mut Rng, index: &Index) -> u64 {
+    let one = rng.below(index.records() as u64 + 2);
+    match rng.below(12) {
+        0 => LAST + 1 + one,
+        1 => LAST + 1 + rng.below(3),
+        2 => (1 << 32) + one,
+        3 => rng.pick(&[LAST, u64::MAX]),
+        _ => one,
     }
 }
 

@@ -27,6 +27,9 @@ pub const COUNTS: usize = 4;
 pub const ROOM: usize = 2048;
 pub const GREATEST: usize = HEADER + ROOM * RECORD;
 
+/// The greatest number of a record that can be asked for by its number.
+pub const LAST: u64 = 65_535;
+
 /// The bytes of a message, where its halves begin, and the bytes of each: key, id and mask.
 pub const MESSAGE: usize = HALVES + 2 * HALF;
 pub const HALVES: usize = 2;
@@ -72,6 +75,12 @@ impl Index {
 
     pub fn records(&self) -> usize {
         self.parts.iter().map(|p| p.len()).sum()
+    }
+
+    /// The part of a record by its number, counted through all parts.
+    pub fn part_of_record(&self, number: u64) -> Option<usize> {
+        let mut parts = self.parts.iter().enumerate().flat_map(|(kind, part)| part.keys().map(move |_| kind));
+        parts.nth(usize::try_from(number).ok()?)
     }
 
     pub fn room(&self) -> usize {
@@ -381,6 +390,45 @@ pub fn read(block: &[u8], kind: u64, key: u64, text: &[u8]) -> (u32, u32, Vec<u8
         Ok((records, block)) => (0, records, block),
         Err(number) => (number, 0, block.to_vec()),
     }
+}
+
+/// tested: 0 for a good block, else the number that refuses it.
+pub fn tested(block: &[u8]) -> u32 {
+    Index::decode(block).map_or_else(|number| number, |_| 0)
+}
+
+/// So many bytes of any block from a place on, with zeros after its end.
+fn padded<const N: usize>(block: &[u8], at: usize) -> [u8; N] {
+    let mut bytes = [0; N];
+    bytes.iter_mut().zip(block.iter().skip(at)).for_each(|(to, &from)| *to = from);
+    bytes
+}
+
+/// size: the number, and how many records of the kind the header says there are. The block may be any bytes.
+pub fn size(block: &[u8], kind: u64) -> (u32, u32) {
+    let header: [u8; HEADER] = padded(block, 0);
+    part_of(kind).map_or_else(|number| (number, 0), |part| (0, word(&header, 2 * part).into()))
+}
+
+/// The bytes of a record of any block by its number, counted through all parts; zeros where the number is too great.
+fn numbered(block: &[u8], number: u64) -> [u8; RECORD] {
+    if number > LAST {
+        return [0; RECORD];
+    }
+    padded(block, HEADER + RECORD * number as usize)
+}
+
+/// record: the number, which is 0 for every record, and its key and id side by side.
+pub fn record(block: &[u8], number: u64) -> (u32, u32) {
+    let [key, key_high, id, id_high, ..] = numbered(block, number);
+    (0, u32::from_le_bytes([key, key_high, id, id_high]))
+}
+
+/// count: the number, which is 0 for every record and letter, and the count.
+pub fn count(block: &[u8], number: u64, letter: u64) -> (u32, u32) {
+    let counts = numbered(block, number)[COUNTS..].to_vec();
+    let count = counts.chunks(2).enumerate().find(|&(k, _)| k as u64 == letter);
+    (0, count.map_or(0, |(_, bytes)| word(bytes, 0).into()))
 }
 
 /// What the program `standing` prints for an input.

@@ -130,6 +130,19 @@ fn lengths() {
 }
 
 #[test]
+fn doors() {
+    let b = block(4, &[(M, 1, 2, 2), (P, 9, 1, 135), (P, 9, 1, 1), (F, 9, 0x123, 6)]);
+    assert_eq!([0, 1, 2, 3, 4].map(|kind| size(&b, kind)), [(3, 0), (0, 1), (0, 1), (0, 1), (3, 0)]);
+    let records = [0, 1, 2, 3, LAST, LAST + 1, 1 << 32].map(|number| record(&b, number));
+    assert_eq!(records, [0x2_0001, 0x1_0009, 0x123_0009, 0, 0, 0, 0].map(|value| (0, value)));
+    let counts = [0, 1, 2, 3, 4, 7, 8, 256, u64::MAX].map(|letter| count(&b, 1, letter));
+    assert_eq!(counts, [2, 1, 1, 0, 0, 1, 0, 0, 0].map(|value| (0, value)));
+    assert_eq!((tested(&b), tested(&b[..15]), tested(&b[..16])), (0, 1, 2));
+    assert_eq!((record(&b[..HEADER + RECORD + 3], 1), record(&b[..HEADER + RECORD + 2], 1)), ((0, 0x1_0009), (0, 9)));
+    assert_eq!((record(&b[..HEADER], 0), size(&[7], 1), size(&[], 1)), ((0, 0), (0, 7), (0, 0)));
+}
+
+#[test]
 fn standing_prints() {
     let input = [
         [0x02, 0x02, 0, 0, 0, 0, 0, 7, 0, 3, 0, 7],

@@ -40,6 +40,13 @@ const FAULTS: &[(&str, &str, &str)] = &[
     ("a leading zero is read", "(text[start] != b'0' || *at == start + 1)", "(text[start] != b'0' || *at <= start + 2)"),
     ("a count of 1 is read", ".filter(|&n| n > 1)?", ".filter(|&n| n > 0)?"),
     ("ids need not rise", "        least = id + 1;", "        least = id;"),
+    ("half a number at the end is not read", "        Some([low]) => (*low).into(),\n", ""),
+    ("a kind that is none has a size", "        1..=3 => (0, word_in(b, 2 * (kind as usize - 1))),", "        1..=4 => (0, word_in(b, 2 * (kind as usize - 1))),"),
+    ("the sizes of P and F change places", "(0, word_in(b, 2 * (kind as usize - 1)))", "(0, word_in(b, 2 * [0, 2, 1][kind as usize - 1]))"),
+    ("a record's number is taken by its last 16 bits", "    if number > LAST {\n        return 0;\n    }\n    let at = place(number as usize);", "    let at = place(number as u16 as usize);"),
+    ("key and id change places", "word_in(b, at) | word_in(b, at + 2) << 16", "word_in(b, at + 2) | word_in(b, at) << 16"),
+    ("the letter after the last is the next record's key", "number > LAST || letter >= LETTERS.len() as u64 {", "number > LAST || letter > LETTERS.len() as u64 {"),
+    ("a count's record is taken by its last 16 bits", "    if number > LAST || letter >= LETTERS.len() as u64 {\n        return 0;\n    }\n    word_in(b, count_at(number as usize,", "    if letter >= LETTERS.len() as u64 {\n        return 0;\n    }\n    word_in(b, count_at(number as u16 as usize,"),
     ("the old set's room is forgotten", "if bounds(b)[3] - (hi - lo) + records >", "if bounds(b)[3] + records >"),
 ];
 

@@ -1,0 +1,169 @@
+//! The block and its calls.
+
+use crate::letters::LETTERS;
+use crate::refusal::answer;
+use crate::{raw, Kind, Name, Refusal, Rights, NAMES};
+use std::fmt;
+
+/// A block of bytes that holds an index.
+#[derive(Clone, PartialEq, Eq)]
+pub struct Block {
+    bytes: Vec<u8>,
+}
+
+impl Block {
+    /// The greatest number of records that a block can have room for.
+    pub const GREATEST_ROOM: usize = 2048;
+    /// The bytes of a record: key, id and a count for each letter, two bytes each.
+    pub const RECORD: usize = 2 * (2 + LETTERS);
+    /// The bytes of the shortest block, which has room for no record.
+    pub const SHORTEST: usize = 16;
+    /// The bytes of the longest block.
+    pub const LONGEST: usize = Self::SHORTEST + Self::GREATEST_ROOM * Self::RECORD;
+    /// The bytes of the longest text of a set: it has every name as an id, every letter with a count of five digits in each
+    /// record, a semicolon after each id and one between two records.
+    pub const LONGEST_TEXT: usize = {
+        let names = NAMES as usize;
+        let digits = 10 + 90 * 2 + 900 * 3 + (names - 1000) * 4;
+        digits + names + (names - 1) + names * LETTERS * (1 + 5)
+    };
+
+    /// How long a block with room for so many records is. More than [`Block::GREATEST_ROOM`] are refused.
+    fn length(room: usize) -> Result<usize, Refusal> {
+        if room > Self::GREATEST_ROOM {
+            return Err(Refusal::BlockLength);
+        }
+        Ok(Self::SHORTEST + Self::RECORD * room)
+    }
+
+    /// An empty block with room for so many records. More than [`Block::GREATEST_ROOM`] are refused with
+    /// [`Refusal::BlockLength`], as the block would be too long.
+    pub fn with_room(room: usize) -> Result<Block, Refusal> {
+        let mut block = Block { bytes: vec![0; Self::length(room)?] };
+        block.clear()?;
+        Ok(block)
+    }
+
+    /// Any bytes. Where they are no good block, each call but [`Block::clear`] refuses them.
+    pub fn from_bytes(bytes: Vec<u8>) -> Block {
+        Block { bytes }
+    }
+
+    /// The bytes, which can be stored and sent as they are. [`Block::save`] adds what tells a damaged block from a whole one.
+    pub fn bytes(&self) -> &[u8] {
+        &self.bytes
+    }
+
+    /// The bytes.
+    pub fn into_bytes(self) -> Vec<u8> {
+        self.bytes
+    }
+
+    /// Whether the block is good: refused with [`Refusal::BlockLength`] or [`Refusal::BlockNotGood`] where it is not.
+    pub fn check(&self) -> Result<(), Refusal> {
+        // SAFETY: the pointer and the length are those of one slice, which the call only reads.
+        answer(unsafe { raw::anaqsiro_tested(self.bytes.as_ptr(), self.bytes.len()) }).map(drop)
+    }
+
+    /// How many records the block has room for in all, those that it holds among them; 0 where no block is so long. How many
+    /// it holds is the length of [`Block::records`].
+    pub fn room(&self) -> usize {
+        match self.bytes.len() {
+            length @ Self::SHORTEST..=Self::LONGEST => (length - Self::SHORTEST) / Self::RECORD,
+            _ => 0,
+        }
+    }
+
+    /// Makes room for so many records in all; those that the block holds stay as they are. A block that has the room already
+    /// is left alone. More than [`Block::GREATEST_ROOM`] are refused, and so is a block that is not good.
+    ///
+    /// ```
+    /// use anaqsiro::{Block, Kind, Refusal};
+    ///
+    /// let mut block = Block::with_room(1)?;
+    /// assert_eq!(block.read_set(Kind::Permission, 9, "1;U;2;U"), Err(Refusal::NoRoom));
+    /// block.grow(2)?;
+    /// assert_eq!(block.read_set(Kind::Permission, 9, "1;U;2;U"), Ok(2));
+    /// assert_eq!(block.grow(2_049), Err(Refusal::BlockLength));
+    /// # Ok::<(), anaqsiro::Refusal>(())
+    /// ```
+    pub fn grow(&mut self, room: usize) -> Result<(), Refusal> {
+        self.check()?;
+        let length = Self::length(room)?;
+        if length > self.bytes.len() {
+            // Every byte from the end of the records on is zero, in the longer block too.
+            self.bytes.resize(length, 0);
+        }
+        Ok(())
+    }
+
+    /// Makes the block an empty one, as long as it is.
+    pub fn clear(&mut self) -> Result<(), Refusal> {
+        // SAFETY: the pointer and the length are those of one slice that is ours for the call.
+        answer(unsafe { raw::anaqsiro_make(self.bytes.as_mut_ptr(), self.bytes.len()) }).map(drop)
+    }
+
+    /// Applies a message: takes the previous half away, then adds the new one. The block does not know statements; a
+    /// [`Ledger`](crate::Ledger) does, and applies each message in its turn.
+    pub fn apply(&mut self, message: impl AsRef<[u8]>) -> Result<(), Refusal> {
+        let message = message.as_ref();
+        // SAFETY: each pointer and length are those of one slice; the borrows keep the two apart.
+        answer(unsafe { raw::anaqsiro_message(self.bytes.as_mut_ptr(), self.bytes.len(), message.as_ptr(), message.len()) })
+            .map(drop)
+    }
+
+    /// The rights that the user holds on the object, of those requested.
+    pub fn rights(&self, user: Name, object: Name, request: Rights) -> Result<Rights, Refusal> {
+        // SAFETY: the pointer and the length are those of one slice, which the call only reads.
+        answer(unsafe { raw::anaqsiro_rights(self.bytes.as_ptr(), self.bytes.len(), user, object, request.mask().into()) })
+            .map(|mask| Rights::from_mask(mask.into()).unwrap_or_default())
+    }
+
+    /// Whether the user holds every right requested on the object.
+    pub fn may(&self, user: Name, object: Name, request: Rights) -> Result<bool, Refusal> {
+        // SAFETY: the pointer and the length are those of one slice, which the call only reads.
+        answer(unsafe { raw::anaqsiro_may(self.bytes.as_ptr(), self.bytes.len(), user, object, request.mask().into()) })
+            .map(|yes| yes == 1)
+    }
+
+    /// Writes the records of one kind and key as text at the front of `out`, and says how long the text is.
+    pub fn write_set(&self, kind: Kind, key: Name, out: &mut [u8]) -> Result<usize, Refusal> {
+        let kind = kind.number().into();
+        // SAFETY: each pointer and length are those of one slice; the borrows keep the two apart.
+        answer(unsafe { raw::anaqsiro_write(self.bytes.as_ptr(), self.bytes.len(), kind, key, out.as_mut_ptr(), out.len()) })
+            .map(|length| length as usize)
+    }
+
+    /// The records of one kind and key as text.
+    pub fn set_text(&self, kind: Kind, key: Name) -> Result<String, Refusal> {
+        let mut out = vec![0; 64];
+        loop {
+            match self.write_set(kind, key, &mut out) {
+                Err(Refusal::TextLong) if out.len() < Self::LONGEST_TEXT => {
+                    out.resize(Self::LONGEST_TEXT.min(8 * out.len()), 0);
+                }
+                Err(refusal) => return Err(refusal),
+                Ok(length) => return Ok(out[..length].iter().copied().map(char::from).collect()),
+            }
+        }
+    }
+
+    /// Replaces the records of one kind and key by those of a text, and says how many they are.
+    pub fn read_set(&mut self, kind: Kind, key: Name, text: impl AsRef<[u8]>) -> Result<usize, Refusal> {
+        let (kind, text) = (kind.number().into(), text.as_ref());
+        // SAFETY: each pointer and length are those of one slice; the borrows keep the two apart.
+        answer(unsafe { raw::anaqsiro_read(self.bytes.as_mut_ptr(), self.bytes.len(), kind, key, text.as_ptr(), text.len()) })
+            .map(|records| records as usize)
+    }
+}
+
+/// The length, and the records of a good block.
+impl fmt::Debug for Block {
+    fn fmt(&self, f: &mut fmt::Formatter<'_>) -> fmt::Result {
+        write!(f, "Block of {} bytes ", self.bytes.len())?;
+        match self.records() {
+            Ok(records) => f.debug_list().entries(records.map(|record| record.to_string())).finish(),
+            Err(refusal) => write!(f, "({refusal})"),
+        }
+    }
+}

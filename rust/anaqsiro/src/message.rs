@@ -1,0 +1,157 @@
+//! What a host tells the index: kinds, names, halves and messages.
+
+use crate::{Letters, Refusal};
+use std::fmt;
+
+/// The number of a user, a group or an object. It is 64 bits wide everywhere, so that 65,537 is refused with
+/// [`Refusal::Name`] and never taken for 1.
+pub type Name = u64;
+
+/// Names are below this number; 0 is the group of all resources.
+pub const NAMES: Name = 1024;
+
+/// What a record says.
+#[derive(Clone, Copy, Debug, PartialEq, Eq, PartialOrd, Ord, Hash)]
+pub enum Kind {
+    /// The key is a member of the group id.
+    Membership = 1,
+    /// The id is granted or denied rights on the key.
+    Permission = 2,
+    /// The filter named id bounds the key.
+    Filter = 3,
+}
+
+impl Kind {
+    /// Each kind, in the order of the numbers.
+    pub const ALL: [Kind; 3] = [Kind::Membership, Kind::Permission, Kind::Filter];
+
+    /// The kind of a number, 1 to 3.
+    pub fn from_number(number: u64) -> Option<Kind> {
+        Self::ALL.into_iter().find(|kind| u64::from(kind.number()) == number)
+    }
+
+    /// The number of the kind.
+    pub const fn number(self) -> u8 {
+        self as u8
+    }
+
+    /// The letter of the kind: M, P or F.
+    pub const fn letter(self) -> char {
+        match self {
+            Kind::Membership => 'M',
+            Kind::Permission => 'P',
+            Kind::Filter => 'F',
+        }
+    }
+}
+
+/// One half of a message: a record, and the letters that are taken away from it or added to it.
+#[derive(Clone, Copy, Debug, PartialEq, Eq, Hash)]
+pub struct Half {
+    pub key: Name,
+    pub id: Name,
+    pub mask: Letters,
+}
+
+/// A name in the 16 bits that a message has for it. One that they do not hold becomes the greatest that they do, which is
+/// above every name too: the message is refused with 4, as it should be.
+fn narrow(name: Name) -> u16 {
+    u16::try_from(name).unwrap_or(u16::MAX)
+}
+
+impl Half {
+    /// The bytes of a half in a message: key, id and mask.
+    const BYTES: usize = 5;
+
+    /// A half with this mask, of rights or of letters.
+    pub fn new(key: Name, id: Name, mask: impl Into<Letters>) -> Half {
+        Half { key, id, mask: mask.into() }
+    }
+
+    fn put(self, bytes: &mut [u8]) {
+        bytes[..2].copy_from_slice(&narrow(self.key).to_le_bytes());
+        bytes[2..4].copy_from_slice(&narrow(self.id).to_le_bytes());
+        bytes[4] = self.mask.mask();
+    }
+
+    fn get(bytes: &[u8]) -> Half {
+        let name = |at: usize| u16::from_le_bytes([bytes[at], bytes[at + 1]]).into();
+        Half { key: name(0), id: name(2), mask: Letters::from_mask(bytes[4].into()).unwrap_or_default() }
+    }
+}
+
+impl fmt::Display for Half {
+    fn fmt(&self, f: &mut fmt::Formatter<'_>) -> fmt::Result {
+        write!(f, "key {}, id {}, {}", self.key, self.id, self.mask)
+    }
+}
+
+/// A message: its kind, which halves are present, and the two halves. It may be any bytes; the library refuses what is wrong.
+///
+/// ```
+/// use anaqsiro::{Half, Kind, Letters, Message};
+///
+/// let message = Message::new(Kind::Permission, None, Some(Half::new(7, 3, "MRU".parse::<Letters>()?)));
+/// assert_eq!(message.0, [2, 2, 0, 0, 0, 0, 0, 7, 0, 3, 0, 7]);
+/// assert_eq!(message.to_string(), "P, from nothing to key 7, id 3, MRU");
+/// # Ok::<(), anaqsiro::NotLetters>(())
+/// ```
+#[derive(Clone, Copy, Debug, PartialEq, Eq, Hash)]
+pub struct Message(pub [u8; Message::BYTES]);
+
+impl Message {
+    /// The bytes of a message.
+    pub const BYTES: usize = Self::HALVES + 2 * Half::BYTES;
+    /// Where the halves begin, after kind and flags.
+    const HALVES: usize = 2;
+
+    /// What the statement said before, and what it says now.
+    pub fn new(kind: Kind, previous: Option<Half>, new: Option<Half>) -> Message {
+        let mut bytes = [0; Message::BYTES];
+        let (front, halves) = bytes.split_at_mut(Self::HALVES);
+        front[0] = kind.number();
+        for (side, (half, bytes)) in [previous, new].into_iter().zip(halves.chunks_mut(Half::BYTES)).enumerate() {
+            if let Some(half) = half {
+                front[1] |= 1 << side;
+                half.put(bytes);
+            }
+        }
+        Message(bytes)
+    }
+
+    /// The kind, if its number is one of a kind.
+    pub fn kind(&self) -> Option<Kind> {
+        Kind::from_number(self.0[0].into())
+    }
+
+    /// The previous half and the new one, each if the flags say that it is present.
+    pub fn halves(&self) -> [Option<Half>; 2] {
+        [0, 1].map(|side| {
+            let bytes = &self.0[Self::HALVES + side * Half::BYTES..][..Half::BYTES];
+            (self.0[1] >> side & 1 == 1).then(|| Half::get(bytes))
+        })
+    }
+}
+
+impl AsRef<[u8]> for Message {
+    fn as_ref(&self) -> &[u8] {
+        &self.0
+    }
+}
+
+/// Bytes that came from elsewhere. Only their length is looked at.
+impl TryFrom<&[u8]> for Message {
+    type Error = Refusal;
+
+    fn try_from(bytes: &[u8]) -> Result<Message, Refusal> {
+        bytes.try_into().map(Message).map_err(|_| Refusal::Form)
+    }
+}
+
+impl fmt::Display for Message {
+    fn fmt(&self, f: &mut fmt::Formatter<'_>) -> fmt::Result {
+        let [previous, new] = self.halves().map(|half| half.map_or("nothing".into(), |half| half.to_string()));
+        let kind = self.kind().map_or('?', Kind::letter);
+        write!(f, "{kind}, from {previous} to {new}")
+    }
+}

@@ -1,0 +1,15 @@
+//! The C interface, as `include/anaqsiro.h` declares it. Each call returns the refusal's number times 2^32 plus a value.
+
+#[link(name = "anaqsiro", kind = "static")]
+extern "C" {
+    pub fn anaqsiro_make(block: *mut u8, len: usize) -> u64;
+    pub fn anaqsiro_message(block: *mut u8, len: usize, message: *const u8, message_len: usize) -> u64;
+    pub fn anaqsiro_rights(block: *const u8, len: usize, user: u64, object: u64, request: u64) -> u64;
+    pub fn anaqsiro_may(block: *const u8, len: usize, user: u64, object: u64, request: u64) -> u64;
+    pub fn anaqsiro_write(block: *const u8, len: usize, kind: u64, key: u64, out: *mut u8, out_len: usize) -> u64;
+    pub fn anaqsiro_read(block: *mut u8, len: usize, kind: u64, key: u64, text: *const u8, text_len: usize) -> u64;
+    pub fn anaqsiro_tested(block: *const u8, len: usize) -> u64;
+    pub fn anaqsiro_size(block: *const u8, len: usize, kind: u64) -> u64;
+    pub fn anaqsiro_record(block: *const u8, len: usize, number: u64) -> u64;
+    pub fn anaqsiro_count(block: *const u8, len: usize, number: u64, letter: u64) -> u64;
+}

@@ -1,0 +1,112 @@
+//! The numbers that a call can give.
+
+use std::fmt;
+
+/// Why a call was refused. Nothing has changed then.
+#[derive(Clone, Copy, Debug, PartialEq, Eq, Hash)]
+#[non_exhaustive]
+pub enum Refusal {
+    /// 1: block length not [`Block::SHORTEST`](crate::Block::SHORTEST) to [`Block::LONGEST`](crate::Block::LONGEST).
+    BlockLength,
+    /// 2: block not good.
+    BlockNotGood,
+    /// 3: message not as long as a [`Message`](crate::Message), or kind, flags or an absent half wrong.
+    Form,
+    /// 4: a name that is not below [`NAMES`](crate::NAMES).
+    Name,
+    /// 5: no right requested; a half's mask empty, or with a denial where a membership or a filter is spoken of.
+    Mask,
+    /// 6: a letter of the previous half has count 0 or no record.
+    NothingToTake,
+    /// 7: after taking away, a letter to add stands at [`u16::MAX`].
+    CountFull,
+    /// 8: after taking away, the records do not fit.
+    NoRoom,
+    /// 9: not the text of any set of that kind.
+    Text,
+    /// 10: text longer than the output buffer.
+    TextLong,
+    /// A number that this crate has no name for: the archive is newer than the crate.
+    Unknown(u32),
+}
+
+impl Refusal {
+    /// Each refusal that has a name, in the order of the numbers, from 1 on.
+    pub const NAMED: &'static [Refusal] = &[
+        Refusal::BlockLength,
+        Refusal::BlockNotGood,
+        Refusal::Form,
+        Refusal::Name,
+        Refusal::Mask,
+        Refusal::NothingToTake,
+        Refusal::CountFull,
+        Refusal::NoRoom,
+        Refusal::Text,
+        Refusal::TextLong,
+    ];
+
+    /// The refusal of a number; none for 0, which is no refusal.
+    pub fn from_number(number: u32) -> Option<Refusal> {
+        let place = number.checked_sub(1)? as usize;
+        Some(Self::NAMED.get(place).copied().unwrap_or(Refusal::Unknown(number)))
+    }
+
+    /// The number of the refusal.
+    pub fn number(self) -> u32 {
+        match self {
+            Refusal::BlockLength => 1,
+            Refusal::BlockNotGood => 2,
+            Refusal::Form => 3,
+            Refusal::Name => 4,
+            Refusal::Mask => 5,
+            Refusal::NothingToTake => 6,
+            Refusal::CountFull => 7,
+            Refusal::NoRoom => 8,
+            Refusal::Text => 9,
+            Refusal::TextLong => 10,
+            Refusal::Unknown(number) => number,
+        }
+    }
+}
+
+/// The number, and when it is given, in the words of the rules.
+impl fmt::Display for Refusal {
+    fn fmt(&self, f: &mut fmt::Formatter<'_>) -> fmt::Result {
+        let why = match self {
+            Refusal::BlockLength => "block length not 16 to 40,976",
+            Refusal::BlockNotGood => "block not good",
+            Refusal::Form => "message not 12 bytes, or kind, flags or an absent half wrong; kind not 1 to 3",
+            Refusal::Name => "a name above 1023, given by the caller or in a present half",
+            Refusal::Mask => "request 0 or above 15; a present half's mask 0, or above 15 for M or F",
+            Refusal::NothingToTake => "a letter of the previous half has count 0 or no record",
+            Refusal::CountFull => "after taking away, a letter to add stands at 65,535",
+            Refusal::NoRoom => "after taking away (or removing the old set), the records do not fit",
+            Refusal::Text => "not the text of any set of that kind",
+            Refusal::TextLong => "text longer than the output buffer",
+            Refusal::Unknown(_) => "not a number of this version",
+        };
+        write!(f, "refused with {}: {why}", self.number())
+    }
+}
+
+impl std::error::Error for Refusal {}
+
+/// An answer of a call taken apart: the value, or the refusal.
+pub(crate) fn answer(packed: u64) -> Result<u32, Refusal> {
+    Refusal::from_number((packed >> 32) as u32).map_or(Ok(packed as u32), Err)
+}
+
+#[cfg(test)]
+mod tests {
+    use super::*;
+
+    #[test]
+    fn an_answer_is_taken_apart() {
+        assert_eq!(answer(7), Ok(7));
+        assert_eq!(answer(u64::from(u32::MAX)), Ok(u32::MAX));
+        assert_eq!(answer(8 << 32), Err(Refusal::NoRoom));
+        assert_eq!(answer(10 << 32), Err(Refusal::TextLong));
+        assert_eq!(answer(11 << 32 | 5), Err(Refusal::Unknown(11)));
+        assert_eq!(answer(u64::MAX), Err(Refusal::Unknown(u32::MAX)));
+    }
+}

@@ -1,0 +1,208 @@
+//! The block: its calls, its records, its room.
+
+use anaqsiro::{Block, Half, Kind, Letters, Message, Record, Refusal, Rights};
+use second::gen::{self, Rng};
+use second::Index;
+use std::thread;
+
+/// A block with room for so many records.
+pub fn with_room(room: usize) -> Block {
+    Block::with_room(room).expect("room")
+}
+
+#[test]
+fn a_set_goes_there_and_back() {
+    let mut block = with_room(4);
+    assert_eq!(block.read_set(Kind::Permission, 7, "3;MRU;12;MRU2"), Ok(2));
+    assert_eq!(block.set_text(Kind::Permission, 7).as_deref(), Ok("3;MRU;12;MRU2"));
+    let before = block.clone();
+    assert_eq!(block.read_set(Kind::Permission, 7, "3;M1"), Err(Refusal::Text));
+    assert_eq!(block.read_set(Kind::Permission, 8, "1;M;2;M;3;M"), Err(Refusal::NoRoom));
+    assert_eq!(block, before);
+    assert_eq!(block.write_set(Kind::Permission, 7, &mut [0; 12]), Err(Refusal::TextLong));
+}
+
+/// The longest text of all: every name as an id, and every count as long as it can be.
+#[test]
+fn the_longest_text_is_written() {
+    let record = |id| format!("{id};{}", "MRUPmrup".chars().map(|letter| format!("{letter}65535")).collect::<String>());
+    let text = (0..1024).map(record).collect::<Vec<_>>().join(";");
+    let mut block = with_room(1024);
+    assert_eq!(block.read_set(Kind::Permission, 5, &text), Ok(1024));
+    assert_eq!(block.set_text(Kind::Permission, 5).as_ref(), Ok(&text));
+    assert_eq!((text.len(), Block::LONGEST_TEXT), (54_185, 54_185));
+}
+
+#[test]
+fn denials_stay_in_their_record() {
+    let mut block = with_room(4);
+    let half = |id, mask: Letters| Some(Half::new(9, id, mask));
+    block.apply(Message::new(Kind::Permission, None, half(1, Rights::ALL | Letters::NO_CREATE))).expect("room");
+    block.apply(Message::new(Kind::Permission, None, half(2, Letters::CREATE))).expect("room");
+    block.apply(Message::new(Kind::Membership, None, Some(Half::new(1, 2, Rights::ALL)))).expect("room");
+    assert_eq!(block.rights(1, 9, Rights::ALL), Ok(Rights::ALL));
+    assert_eq!(block.rights(2, 9, Rights::ALL), Ok(Rights::CREATE));
+    assert_eq!(block.rights(2, 9, Rights::NONE), Err(Refusal::Mask));
+}
+
+#[test]
+fn room_that_can_not_be_is_refused() {
+    assert_eq!((Block::LONGEST, Block::GREATEST_ROOM, Message::BYTES), (40_976, 2_048, 12));
+    for room in [0, 1, 2_047, 2_048] {
+        let block = with_room(room);
+        assert_eq!((block.bytes().len(), block.room(), block.check()), (16 + 20 * room, room, Ok(())));
+    }
+    for room in [2_049, 4_096, usize::MAX / 20, usize::MAX] {
+        assert_eq!(Block::with_room(room), Err(Refusal::BlockLength));
+        assert_eq!(with_room(3).grow(room), Err(Refusal::BlockLength));
+    }
+    let rooms = [0, 15, 16, 35, 36, 40_975, 40_976, 40_977].map(|length| Block::from_bytes(vec![0; length]).room());
+    assert_eq!(rooms, [0, 0, 0, 0, 1, 2_047, 2_048, 0]);
+}
+
+#[test]
+fn a_block_that_is_not_good_is_refused_everywhere() {
+    let short = Block::from_bytes(vec![0; 15]);
+    let wrong = Block::from_bytes(vec![0; 36]);
+    for (mut block, refusal) in [(short, Refusal::BlockLength), (wrong, Refusal::BlockNotGood)] {
+        let before = block.clone();
+        assert_eq!(block.check(), Err(refusal));
+        assert_eq!(block.records().err(), Some(refusal));
+        assert_eq!(block.mentions(1024).err(), Some(refusal));
+        assert_eq!(block.grow(4), Err(refusal));
+        assert_eq!(block.grow(4_096), Err(refusal));
+        assert_eq!(block.save(), Err(refusal));
+        assert_eq!(block.apply([0u8; 3]), Err(refusal));
+        assert_eq!(block, before);
+    }
+    assert_eq!(Block::from_bytes(vec![]).clear(), Err(Refusal::BlockLength));
+    assert_eq!(with_room(1).apply([0u8; 3]), Err(Refusal::Form));
+    assert_eq!(format!("{:?}", Block::from_bytes(vec![])), "Block of 0 bytes (refused with 1: block length not 16 to 40,976)");
+}
+
+/// The records of a decoded block, in the crate's own words.
+fn records_of(index: &Index) -> Vec<Record> {
+    let part = |(kind, part): (Kind, &second::Part)| {
+        let record = move |(&(key, id), &counts): (&(u16, u16), &second::Counts)| Record {
+            kind,
+            key: key.into(),
+            id: id.into(),
+            counts,
+        };
+        part.iter().map(record).collect::<Vec<_>>()
+    };
+    Kind::ALL.into_iter().zip(&index.parts).flat_map(part).collect()
+}
+
+/// Blocks of every shape: the records are those that the second program decodes, and the text of a record is that of a set
+/// with it alone.
+#[test]
+fn records_are_those_of_the_block() {
+    let (mut met, mut most) = ([0; 3], 0);
+    for seed in 0..400 {
+        let index = gen::index(&mut Rng(seed));
+        let block = Block::from_bytes(index.encode());
+        let (records, wanted) = (block.records().expect("good"), records_of(&index));
+        assert_eq!((records.len(), records.clone().count()), (wanted.len(), wanted.len()));
+        assert!(records.eq(wanted.iter().copied()));
+        for record in &wanted {
+            met[usize::from(record.kind.number()) - 1] += 1;
+            let set = second::text(&[(record.id as u16, record.counts)].into());
+            let text = String::from_utf8(set).expect("a text");
+            assert_eq!(record.to_string(), format!("{}{} {text}", record.kind.letter(), record.key));
+        }
+        most = most.max(wanted.len());
+    }
+    assert!(
+        met.iter().all(|&records| records > 1_000) && most >= 2_046,
+        "met {met:?} records of each kind, {most} in one block"
+    );
+}
+
+#[test]
+fn records_end_and_stay_ended() {
+    let mut block = with_room(3);
+    block.read_set(Kind::Filter, 4, "20;RU;21;R").expect("room");
+    let mut records = block.records().expect("good");
+    assert_eq!((records.len(), records.next().map(|record| record.id)), (2, Some(20)));
+    assert_eq!((records.len(), records.next().map(|record| record.id)), (1, Some(21)));
+    assert_eq!((records.len(), records.next(), records.next()), (0, None, None));
+    assert_eq!(format!("{block:?}"), r#"Block of 76 bytes ["F4 20;RU", "F4 21;R"]"#);
+}
+
+#[test]
+fn a_record_tells_its_letters() {
+    let mut block = with_room(1);
+    block.read_set(Kind::Permission, 9, "1;MU3p65535").expect("room");
+    let record = block.records().expect("good").next().expect("a record");
+    assert_eq!(record.letters().to_string(), "MUp");
+    assert_eq!(
+        "MRUPmrupX;".chars().map(|letter| record.count(letter)).collect::<Vec<_>>(),
+        [1, 0, 3, 0, 0, 0, 0, 65_535, 0, 0]
+    );
+}
+
+/// The records that name a name, as key, as id, as both: those that the second program finds, and each way is met.
+#[test]
+fn mentions_are_found() {
+    let mut met = [0; 4];
+    for seed in 0..100 {
+        let index = gen::index(&mut Rng(seed));
+        let block = Block::from_bytes(index.encode());
+        for name in [0, 1, 5, 100, 1023] {
+            let all = records_of(&index);
+            all.iter().for_each(|record| met[usize::from(record.key == name) + 2 * usize::from(record.id == name)] += 1);
+            let wanted = all.into_iter().filter(|record| [record.key, record.id].contains(&name));
+            assert!(block.mentions(name).expect("good").eq(wanted));
+        }
+    }
+    assert!(met.iter().all(|&records| records > 10), "{met:?}");
+}
+
+/// A block that grew is the block with the same records that is longer, and takes more.
+#[test]
+fn a_block_grows_and_keeps_its_records() {
+    let (mut longer, mut left_alone) = (0, 0);
+    for seed in 0..300 {
+        let mut rng = Rng(seed);
+        let mut index = gen::index(&mut rng);
+        let mut block = Block::from_bytes(index.encode());
+        let most = rng.pick(&[20, 100, 2_049]);
+        let room = rng.below(most) as usize;
+        let before = block.clone();
+        block.grow(room).expect("good, and not too long");
+        if 16 + 20 * room > index.length {
+            index.length = 16 + 20 * room;
+            longer += 1;
+        } else {
+            left_alone += 1;
+            assert_eq!(block, before);
+        }
+        assert_eq!((block.bytes(), block.check()), (&index.encode()[..], Ok(())));
+        assert!(block.room() >= room);
+    }
+    assert!(longer > 50 && left_alone > 20, "{longer} grew, {left_alone} were left alone");
+}
+
+#[test]
+fn threads_share_nothing() {
+    let history = |first: u64| {
+        let mut block = with_room(60);
+        for n in 0..4_000 {
+            let mask = Letters::from_mask(1 + n % 15).expect("a mask");
+            let half = Some(Half::new((first + 7 * n) % 8, (first + 11 * n) % 9, mask));
+            let (previous, new) = if n % 3 == 2 { (half, None) } else { (None, half) };
+            let kind = [Kind::Membership, Kind::Permission][n as usize % 2];
+            let _ = block.apply(Message::new(kind, previous, new));
+        }
+        let rights: Vec<_> = (0..81).map(|n| block.rights(n / 9, n % 9, Rights::ALL)).collect();
+        (block, rights)
+    };
+    let alone: Vec<_> = (0..4).map(history).collect();
+    let together: Vec<_> = thread::scope(|scope| {
+        let threads: Vec<_> = (0..4).map(|first| scope.spawn(move || history(first))).collect();
+        threads.into_iter().map(|thread| thread.join().expect("no panic")).collect()
+    });
+    assert!(alone.iter().all(|(_, rights)| rights.iter().any(|held| held.is_ok_and(|held| !held.is_empty()))));
+    assert_eq!(alone, together);
+}

@@ -1,0 +1,108 @@
+//! The safe calls, held against the second program as the archive is.
+
+use anaqsiro::{raw, Block, Kind, Record, Refusal, Rights};
+use second::drive::{run, Library};
+
+/// The safe calls where the comparison wants a library. What they have no words for goes to the archive itself: a kind that is
+/// none, a request that is not of rights, a record that there is not, and the records of a block that is not good.
+struct Safe;
+
+/// An answer put together again.
+fn packed(answer: Result<usize, Refusal>) -> u64 {
+    answer.map_or_else(|refusal| u64::from(refusal.number()) << 32, |value| value as u64)
+}
+
+/// What a call on a block of these bytes gives; the bytes are then the block's.
+fn on(bytes: &mut [u8], call: impl FnOnce(&mut Block) -> Result<usize, Refusal>) -> u64 {
+    let mut block = Block::from_bytes(bytes.to_vec());
+    let answer = call(&mut block);
+    bytes.copy_from_slice(block.bytes());
+    packed(answer)
+}
+
+/// A record of a good block by its number.
+fn record_of(block: &[u8], number: u64) -> Option<Record> {
+    Block::from_bytes(block.to_vec()).records().ok()?.nth(usize::try_from(number).ok()?)
+}
+
+impl Library for Safe {
+    fn make(&self, block: &mut [u8]) -> u64 {
+        on(block, |block| block.clear().map(|()| 0))
+    }
+
+    fn message(&self, block: &mut [u8], message: &[u8]) -> u64 {
+        on(block, |block| block.apply(message).map(|()| 0))
+    }
+
+    fn rights(&self, block: &[u8], user: u64, object: u64, request: u64) -> u64 {
+        let safe = Block::from_bytes(block.to_vec());
+        match Rights::from_mask(request) {
+            Some(request) => packed(safe.rights(user, object, request).map(|held| held.mask().into())),
+            None => unsafe { raw::anaqsiro_rights(block.as_ptr(), block.len(), user, object, request) },
+        }
+    }
+
+    fn may(&self, block: &[u8], user: u64, object: u64, request: u64) -> u64 {
+        let safe = Block::from_bytes(block.to_vec());
+        match Rights::from_mask(request) {
+            Some(request) => packed(safe.may(user, object, request).map(usize::from)),
+            None => unsafe { raw::anaqsiro_may(block.as_ptr(), block.len(), user, object, request) },
+        }
+    }
+
+    fn write(&self, block: &[u8], kind: u64, key: u64, out: &mut [u8]) -> u64 {
+        let Some(kind) = Kind::from_number(kind) else {
+            return unsafe { raw::anaqsiro_write(block.as_ptr(), block.len(), kind, key, out.as_mut_ptr(), out.len()) };
+        };
+        let block = Block::from_bytes(block.to_vec());
+        let length = block.write_set(kind, key, out);
+        let whole = block.set_text(kind, key);
+        match length {
+            Ok(length) => assert_eq!(whole.expect("a text").as_bytes(), &out[..length]),
+            Err(Refusal::TextLong) => assert!(whole.expect("a text").len() > out.len()),
+            Err(refusal) => assert_eq!(whole, Err(refusal)),
+        }
+        packed(length)
+    }
+
+    fn read(&self, block: &mut [u8], kind: u64, key: u64, text: &[u8]) -> u64 {
+        match Kind::from_number(kind) {
+            Some(kind) => on(block, |block| block.read_set(kind, key, text)),
+            None => unsafe { raw::anaqsiro_read(block.as_mut_ptr(), block.len(), kind, key, text.as_ptr(), text.len()) },
+        }
+    }
+
+    fn tested(&self, block: &[u8]) -> u64 {
+        packed(Block::from_bytes(block.to_vec()).check().map(|()| 0))
+    }
+
+    fn size(&self, block: &[u8], kind: u64) -> u64 {
+        let safe = Block::from_bytes(block.to_vec());
+        match (safe.records(), Kind::from_number(kind)) {
+            (Ok(records), Some(kind)) => records.filter(|record| record.kind == kind).count() as u64,
+            _ => unsafe { raw::anaqsiro_size(block.as_ptr(), block.len(), kind) },
+        }
+    }
+
+    fn record(&self, block: &[u8], number: u64) -> u64 {
+        match record_of(block, number) {
+            Some(record) => record.key + (record.id << 16),
+            None => unsafe { raw::anaqsiro_record(block.as_ptr(), block.len(), number) },
+        }
+    }
+
+    fn count(&self, block: &[u8], number: u64, letter: u64) -> u64 {
+        match (record_of(block, number), "MRUPmrup".chars().nth(letter.min(8) as usize)) {
+            (Some(record), Some(letter)) => record.count(letter).into(),
+            _ => unsafe { raw::anaqsiro_count(block.as_ptr(), block.len(), number, letter) },
+        }
+    }
+}
+
+/// Blocks that are good or nearly good, messages and texts that are right or wrong in one place: each call answers what the
+/// second program does, and every number of every call comes up.
+#[test]
+fn any_bytes_are_answered() {
+    let tally = run(&Safe, 5_000, 3).unwrap_or_else(|what| panic!("{what}"));
+    tally.complete().unwrap_or_else(|what| panic!("{what}"));
+}

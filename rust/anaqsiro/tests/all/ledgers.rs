@@ -1,0 +1,386 @@
+//! The ledger, case by case.
+
+use anaqsiro::{Half, Kind, Ledger, Letters, Message, NotTaken, Refusal, Rights, Said, Statement, Taken, Why};
+use second::gen::{self, Rng};
+
+const P: Kind = Kind::Permission;
+const EARLY: Taken = Taken::HeldBack(Why::Early);
+const APPLIED: Taken = Taken::Applied { released: 0 };
+
+/// Letters on 9 for the user 1.
+fn half(letters: &str) -> Option<Half> {
+    Some(Half::new(9, 1, letters.parse::<Letters>().expect("letters")))
+}
+
+/// A message of a permission: what it quotes, and what it says; none where the text is empty.
+fn message(previous: &str, new: &str) -> Message {
+    let half = |text: &str| (!text.is_empty()).then(|| half(text)).flatten();
+    Message::new(P, half(previous), half(new))
+}
+
+fn with_room(room: usize) -> Ledger<&'static str> {
+    Ledger::with_room(room).expect("room")
+}
+
+/// What stands in the block, a line for each record.
+fn lines(ledger: &Ledger<&str>) -> Vec<String> {
+    ledger.block().records().expect("good").map(|record| record.to_string()).collect()
+}
+
+/// Label, next number, reason, and the numbers held back.
+type Line = (&'static str, u64, Why, Vec<u64>);
+
+fn waiting(ledger: &Ledger<&'static str>) -> Vec<Line> {
+    let numbers = |held: Vec<(u64, Message)>| held.into_iter().map(|(number, _)| number).collect();
+    ledger.waiting().map(|waits| (*waits.label, waits.next, waits.why, numbers(waits.held))).collect()
+}
+
+/// The mill's story. A block alone takes the early end for that of the first appointment; the ledger does not.
+#[test]
+fn the_end_of_the_second_appointment_comes_before_its_start() {
+    let (start, end) = (message("", "U"), message("U", ""));
+    let mut ledger = with_room(8);
+    let mut alone = ledger.block().clone();
+    let may = |block: &anaqsiro::Block| block.may(1, 9, Rights::UPDATE).expect("good");
+    let steps = [("first", 1, start, APPLIED), ("second", 2, end, EARLY), ("second", 1, start, Taken::Applied { released: 1 })];
+    let mut seen = Vec::new();
+    for (label, number, message, taken) in steps {
+        assert_eq!(ledger.take(label, number, message), Ok(taken));
+        alone.apply(message).expect("accepted");
+        seen.push((may(ledger.block()), may(&alone)));
+    }
+    assert_eq!(seen, [(true, true), (true, false), (true, true)]);
+    assert_eq!(ledger.block(), &alone);
+}
+
+#[test]
+fn what_is_said_quotes_what_was_left() {
+    let mut ledger = with_room(8);
+    let said = |sequence, previous, new| Ok(Said { sequence, message: message(previous, new) });
+    assert_eq!(ledger.say("a", P, half("MR")), said(1, "", "MR"));
+    assert_eq!(ledger.say("a", P, half("Ru")), said(2, "MR", "Ru"));
+    assert_eq!((ledger.left("a"), lines(&ledger)), (half("Ru"), vec!["P9 1;Ru".to_string()]));
+    assert_eq!(ledger.say("a", P, None), said(3, "Ru", ""));
+    assert_eq!((ledger.left("a"), lines(&ledger)), (None, vec![]));
+    assert_eq!(ledger.say("a", P, half("P")), said(4, "", "P"));
+    assert_eq!(ledger.statements().collect::<Vec<_>>(), [(&"a", Statement { kind: P, left: half("P"), taken: 4 })]);
+}
+
+#[test]
+fn what_can_not_be_said_changes_nothing() {
+    let mut ledger = with_room(1);
+    ledger.say("a", P, half("R")).expect("room");
+    ledger.say("ended", P, half("R")).expect("room");
+    ledger.say("ended", P, None).expect("it stands");
+    ledger.take("behind", 2, message("R", "")).expect("held back");
+    let before = (lines(&ledger), waiting(&ledger));
+    let elsewhere = |key, mask: Rights| Some(Half::new(key, 1, mask));
+    let refused = |refusal| Err(NotTaken::Refused(refusal));
+    assert_eq!(ledger.say("ended", P, None), refused(Refusal::Form));
+    assert_eq!(ledger.say("new", P, None), refused(Refusal::Form));
+    assert_eq!(ledger.say("a", P, elsewhere(65_545, Rights::READ)), refused(Refusal::Name));
+    assert_eq!(ledger.say("a", P, elsewhere(9, Rights::NONE)), refused(Refusal::Mask));
+    assert_eq!(ledger.say("new", P, elsewhere(8, Rights::READ)), refused(Refusal::NoRoom));
+    assert_eq!(ledger.say("a", Kind::Filter, half("R")), Err(NotTaken::OtherKind(P)));
+    assert_eq!(ledger.say("ended", Kind::Filter, half("R")), Err(NotTaken::OtherKind(P)));
+    assert_eq!(ledger.say("behind", P, half("R")), Err(NotTaken::OthersFirst));
+    assert_eq!((lines(&ledger), waiting(&ledger)), before);
+    assert_eq!(ledger.statements().count(), 2, "no statement was begun");
+    assert_eq!(ledger.say("a", P, elsewhere(8, Rights::READ)).map(|said| said.sequence), Ok(2), "no number was used up");
+}
+
+#[test]
+fn messages_are_released_in_their_turn() {
+    let stream = [message("", "M"), message("M", "MR"), message("MR", "P"), message("P", "P"), message("P", "")];
+    let mut ledger = with_room(8);
+    for number in [5, 2, 4] {
+        assert_eq!(ledger.take("a", number, stream[number as usize - 1]), Ok(EARLY));
+    }
+    assert_eq!((waiting(&ledger), lines(&ledger)), (vec![("a", 1, Why::Early, vec![2, 4, 5])], vec![]));
+    assert_eq!(ledger.statements().count(), 0);
+    assert_eq!(ledger.take("a", 1, stream[0]), Ok(Taken::Applied { released: 1 }));
+    assert_eq!((waiting(&ledger), lines(&ledger)), (vec![("a", 3, Why::Early, vec![4, 5])], vec!["P9 1;MR".to_string()]));
+    assert_eq!(ledger.waiting().next().map(|waits| waits.held), Some(vec![(4, stream[3]), (5, stream[4])]));
+    assert_eq!(ledger.take("a", 3, stream[2]), Ok(Taken::Applied { released: 2 }));
+    assert_eq!((waiting(&ledger), lines(&ledger)), (vec![], vec![]));
+    for number in 1..=5 {
+        assert_eq!(ledger.take("a", number, stream[number as usize - 1]), Ok(Taken::Repeated));
+    }
+    assert_eq!(lines(&ledger), Vec::<String>::new());
+}
+
+#[test]
+fn a_message_that_does_not_fit_is_not_taken() {
+    let mut ledger = with_room(8);
+    assert_eq!(ledger.take("a", 1, message("R", "")), Err(NotTaken::NotQuoted(None)));
+    assert_eq!(ledger.take("a", 0, message("", "R")), Err(NotTaken::SequenceZero));
+    assert_eq!(ledger.statements().count() + ledger.waiting().count(), 0);
+    assert_eq!(ledger.take("a", 1, message("", "RU")), Ok(APPLIED));
+    for other in [message("R", ""), message("", "R"), message("RUm", "")] {
+        assert_eq!(ledger.take("a", 2, other), Err(NotTaken::NotQuoted(half("RU"))));
+    }
+    for number in [2, 3] {
+        let membership = Message::new(Kind::Membership, half("RU"), None);
+        assert_eq!(ledger.take("a", number, membership), Err(NotTaken::OtherKind(P)));
+    }
+    assert_eq!((waiting(&ledger), ledger.left("a")), (vec![], half("RU")));
+    assert_eq!(ledger.take("a", 2, message("RU", "")), Ok(APPLIED));
+}
+
+/// Messages with one wrong place: those that the second program refuses with 3, 4 or 5 are refused so, whatever their number,
+/// and the others are taken. Each of the three is met, and so is what is well formed.
+#[test]
+fn a_message_that_is_not_well_formed_is_not_taken() {
+    let mut met = [0; 6];
+    let empty = second::make(&[0; 16]).1;
+    for seed in 0..4_000 {
+        let mut rng = Rng(seed);
+        let index = gen::index(&mut rng);
+        let bytes = gen::message(&mut rng, &index);
+        let Ok(message) = Message::try_from(&bytes[..]) else { continue };
+        let number = second::message(&empty, &bytes).0;
+        let mut ledger = with_room(8);
+        let taken = ledger.take("a", 2, message);
+        if (3..=5).contains(&number) {
+            assert_eq!(taken.map_err(|why| why.to_string()), Err(Refusal::from_number(number).expect("a refusal").to_string()));
+            assert_eq!(ledger.waiting().count(), 0);
+            met[number as usize] += 1;
+        } else {
+            assert_eq!((taken, ledger.give_back("a", 2)), (Ok(EARLY), Some(message)));
+            met[0] += 1;
+        }
+    }
+    assert!([0, 3, 4, 5].iter().all(|&number| met[number] > 50), "{met:?}");
+}
+
+#[test]
+fn two_messages_of_one_number() {
+    let mut ledger = with_room(8);
+    let (wrong, right) = (message("M", ""), message("R", "U"));
+    assert_eq!(ledger.take("a", 2, wrong), Ok(EARLY));
+    assert_eq!(ledger.take("a", 2, wrong), Ok(EARLY), "the same once more");
+    assert_eq!(ledger.take("a", 2, right), Err(NotTaken::Conflicts(wrong)));
+    assert_eq!(ledger.take("a", 1, message("", "R")), Ok(APPLIED));
+    let stuck = Why::NotQuoted(half("R"));
+    assert_eq!(waiting(&ledger), [("a", 2, stuck, vec![2])]);
+    assert_eq!(ledger.take("a", 2, wrong), Ok(Taken::HeldBack(stuck)));
+    assert_eq!(ledger.take("a", 2, right), Err(NotTaken::Conflicts(wrong)));
+    assert_eq!(ledger.give_back("a", 2), Some(wrong));
+    assert_eq!((ledger.give_back("a", 2), ledger.give_back("b", 2)), (None, None));
+    assert_eq!(ledger.take("a", 2, right), Ok(APPLIED));
+    assert_eq!((waiting(&ledger), ledger.left("a")), (vec![], half("U")));
+}
+
+/// Messages of another kind that were held back before the kind was known stay where they are until they are taken out.
+#[test]
+fn another_kind_is_held_back_until_it_is_given_back() {
+    let mut ledger = with_room(8);
+    let other = Message::new(Kind::Membership, half("R"), half("U"));
+    assert_eq!(ledger.take("a", 2, other), Ok(EARLY));
+    assert_eq!(ledger.take("a", 3, message("U", "")), Ok(EARLY));
+    assert_eq!(ledger.take("a", 1, message("", "R")), Ok(APPLIED));
+    assert_eq!(waiting(&ledger), [("a", 2, Why::OtherKind(P), vec![2, 3])]);
+    assert_eq!(ledger.skip("a"), Err(NotTaken::OtherKind(P)));
+    assert_eq!(ledger.give_back("a", 2), Some(other));
+    assert_eq!(ledger.skip("a"), Ok(1), "from R to nothing, though the last message quotes U");
+    assert_eq!((waiting(&ledger), lines(&ledger)), (vec![], vec![]));
+    assert_eq!(ledger.statement("a"), Some(Statement { kind: P, left: None, taken: 3 }));
+}
+
+/// A record for each key, with room for one.
+fn on(key: u64) -> Option<Half> {
+    Some(Half::new(key, 1, Rights::READ))
+}
+
+#[test]
+fn a_full_block_is_tried_again() {
+    let no_room = Taken::HeldBack(Why::Refused(Refusal::NoRoom));
+    let mut ledger = with_room(1);
+    ledger.say("here", P, on(1)).expect("room");
+    assert_eq!(ledger.take("b", 1, Message::new(P, None, on(2))), Ok(no_room));
+    assert_eq!(ledger.take("b", 1, Message::new(P, None, on(2))), Ok(no_room), "the same once more");
+    assert_eq!(ledger.take("b", 2, Message::new(P, on(2), on(3))), Ok(EARLY));
+    assert_eq!(ledger.take("c", 1, Message::new(P, None, on(3))), Ok(no_room));
+    let full = Why::Refused(Refusal::NoRoom);
+    assert_eq!(waiting(&ledger), [("b", 1, full, vec![1, 2]), ("c", 1, full, vec![1])]);
+    assert_eq!(ledger.skip("b"), Err(NotTaken::Refused(Refusal::NoRoom)));
+    assert_eq!(ledger.say("b", P, on(1)), Err(NotTaken::OthersFirst));
+    // The room is free: b takes it and moves on to where c finds its record.
+    assert_eq!(ledger.take("here", 2, Message::new(P, on(1), None)), Ok(Taken::Applied { released: 3 }));
+    assert_eq!((waiting(&ledger), lines(&ledger)), (vec![], vec!["P3 1;R2".to_string()]));
+}
+
+#[test]
+fn a_block_that_grows_takes_what_had_no_room() {
+    let full = Why::Refused(Refusal::NoRoom);
+    let mut ledger = with_room(0);
+    for (label, key) in [("a", 1), ("b", 2), ("c", 3)] {
+        assert_eq!(ledger.take(label, 1, Message::new(P, None, on(key))), Ok(Taken::HeldBack(full)));
+    }
+    assert_eq!(ledger.grow(2), Ok(2));
+    assert_eq!((waiting(&ledger), ledger.block().room()), (vec![("c", 1, full, vec![1])], 2));
+    assert_eq!(ledger.grow(2_049), Err(Refusal::BlockLength));
+    assert_eq!(ledger.grow(2), Ok(0));
+    assert_eq!(ledger.give_back("c", 1), Some(Message::new(P, None, on(3))));
+    assert_eq!((ledger.grow(2_048), lines(&ledger)), (Ok(0), vec!["P1 1;R".to_string(), "P2 1;R".to_string()]));
+    assert_eq!(ledger.take("c", 1, Message::new(P, None, on(3))), Ok(APPLIED));
+}
+
+/// A message that had no room is given back while one behind it waits: that one is early then, and is not tried.
+#[test]
+fn one_that_had_no_room_is_given_back() {
+    let mut ledger = with_room(1);
+    ledger.say("here", P, on(1)).expect("room");
+    ledger.take("b", 1, Message::new(P, None, on(2))).expect("held back");
+    ledger.take("b", 2, Message::new(P, on(2), None)).expect("held back");
+    assert_eq!(ledger.give_back("b", 1), Some(Message::new(P, None, on(2))));
+    assert_eq!(waiting(&ledger), [("b", 1, Why::Early, vec![2])]);
+    assert_eq!(ledger.say("here", P, None).map(|said| said.sequence), Ok(2));
+    assert_eq!(waiting(&ledger), [("b", 1, Why::Early, vec![2])]);
+    assert_eq!(ledger.skip("b"), Ok(1), "a start that is given up and an end: nothing is left to do");
+    assert_eq!((waiting(&ledger), lines(&ledger)), (vec![], vec![]));
+    assert_eq!(ledger.take("b", 1, Message::new(P, None, on(2))), Ok(Taken::Repeated));
+}
+
+/// What follows when a statement goes on: its own messages, one of which has no room and is tried again later, and those of
+/// others that had no room.
+#[test]
+fn a_full_block_is_tried_again_after_going_on() {
+    let mut ledger = with_room(1);
+    ledger.say("here", P, on(1)).expect("room");
+    ledger.take("b", 2, Message::new(P, on(1), on(1))).expect("held back");
+    ledger.take("b", 3, Message::new(P, on(1), on(2))).expect("held back");
+    assert_eq!((ledger.skip("b"), lines(&ledger)), (Ok(1), vec!["P1 1;R2".to_string()]));
+    assert_eq!(waiting(&ledger), [("b", 3, Why::Refused(Refusal::NoRoom), vec![3])]);
+    assert_eq!(ledger.take("here", 2, Message::new(P, on(1), None)), Ok(Taken::Applied { released: 1 }));
+    assert_eq!(lines(&ledger), ["P2 1;R"]);
+    ledger.take("c", 1, Message::new(P, None, on(3))).expect("held back");
+    ledger.take("b", 5, Message::new(P, on(4), None)).expect("held back");
+    assert_eq!((ledger.skip("b"), waiting(&ledger), lines(&ledger)), (Ok(2), vec![], vec!["P3 1;R".to_string()]));
+}
+
+/// 65,535 statements stand with one letter of one record. One more waits until one of them ends.
+#[test]
+fn a_full_count_is_tried_again() {
+    let mut ledger = Ledger::with_room(1).expect("room");
+    for label in 0..65_535u32 {
+        ledger.say(label, P, half("R")).expect("a count below the greatest");
+    }
+    let full = Why::Refused(Refusal::CountFull);
+    assert_eq!(ledger.say(70_000, P, half("RU")), Err(NotTaken::Refused(Refusal::CountFull)));
+    assert_eq!(ledger.take(70_000, 1, message("", "RU")), Ok(Taken::HeldBack(full)));
+    assert_eq!(ledger.take(70_000, 2, message("RU", "U")), Ok(EARLY));
+    assert_eq!(ledger.waiting().map(|waits| waits.why).collect::<Vec<_>>(), [full]);
+    assert_eq!(ledger.take(3, 2, message("R", "R")), Ok(APPLIED), "the count is as full as before");
+    assert_eq!(ledger.take(3, 3, message("R", "")), Ok(Taken::Applied { released: 2 }));
+    let record = ledger.block().records().expect("good").next().expect("a record");
+    assert_eq!((record.count('R'), record.count('U'), ledger.waiting().count()), (65_534, 1, 0));
+}
+
+/// One message waits for a count, and the one that would lower it waits for room: both follow when there is room, though the
+/// first is tried before the second.
+#[test]
+fn what_was_refused_is_tried_until_nothing_more_is_accepted() {
+    let mut ledger = Ledger::with_room(2).expect("room");
+    for label in 10..65_545u32 {
+        ledger.say(label, P, on(1)).expect("a count below the greatest");
+    }
+    ledger.say(70_000, P, on(2)).expect("room");
+    let refused = |refusal| Ok(Taken::HeldBack(Why::Refused(refusal)));
+    assert_eq!(ledger.take(20, 2, Message::new(P, on(1), on(3))), refused(Refusal::NoRoom));
+    assert_eq!(ledger.take(5, 1, Message::new(P, None, on(1))), refused(Refusal::CountFull));
+    assert_eq!(ledger.take(70_000, 2, Message::new(P, on(2), None)), Ok(Taken::Applied { released: 2 }));
+    let records: Vec<String> = ledger.block().records().expect("good").map(|record| record.to_string()).collect();
+    assert_eq!((records, ledger.waiting().count()), (vec!["P1 1;R65535".into(), "P3 1;R".into()], 0));
+}
+
+#[test]
+fn a_statement_goes_on_without_what_was_lost() {
+    let mut ledger = with_room(8);
+    assert_eq!(ledger.skip("a"), Err(NotTaken::NothingHeldBack));
+    assert_eq!(ledger.take("a", 1, message("", "M")), Ok(APPLIED));
+    assert_eq!(ledger.skip("a"), Err(NotTaken::NothingHeldBack));
+    assert_eq!(ledger.take("a", 4, message("U", "P")), Ok(EARLY));
+    assert_eq!(ledger.take("a", 5, message("P", "RP")), Ok(EARLY));
+    assert_eq!(ledger.take("a", 7, message("R", "")), Ok(EARLY));
+    assert_eq!(ledger.skip("a"), Ok(2), "from M to P, and on to RP");
+    assert_eq!((waiting(&ledger), lines(&ledger)), (vec![("a", 6, Why::Early, vec![7])], vec!["P9 1;RP".to_string()]));
+    assert_eq!(ledger.take("a", 2, message("M", "R")), Ok(Taken::Repeated));
+    assert_eq!(ledger.skip("a"), Ok(1));
+    assert_eq!((waiting(&ledger), lines(&ledger), ledger.left("a")), (vec![], vec![], None));
+}
+
+/// Numbers up to the greatest: nothing wraps.
+#[test]
+fn the_greatest_number_is_the_last() {
+    let mut ledger = with_room(8);
+    assert_eq!(ledger.take("a", u64::MAX, message("M", "R")), Ok(EARLY));
+    assert_eq!(ledger.take("a", u64::MAX - 1, message("U", "M")), Ok(EARLY));
+    assert_eq!(ledger.skip("a"), Ok(2));
+    assert_eq!(ledger.say("a", P, None), Err(NotTaken::SequenceUsedUp));
+    assert_eq!(ledger.take("a", u64::MAX, message("R", "")), Ok(Taken::Repeated));
+    assert_eq!((lines(&ledger), ledger.waiting().count()), (vec!["P9 1;R".to_string()], 0));
+}
+
+/// The statements of a record, whatever they have held back; those that ended, and those of other kinds and records, are not
+/// among them.
+#[test]
+fn statements_of_a_record() {
+    let mut ledger: Ledger<String> = Ledger::with_room(8).expect("room");
+    let mut say = |label: &str, kind, new| ledger.say(label.into(), kind, new).map(drop);
+    for (label, kind, new) in [
+        ("one", P, half("RU")),
+        ("ended", P, half("R")),
+        ("moved", P, half("R")),
+        ("two", P, half("um")),
+        ("other kind", Kind::Filter, half("R")),
+        ("other id", P, Some(Half::new(9, 2, Rights::READ))),
+    ] {
+        say(label, kind, new).expect("room");
+    }
+    say("ended", P, None).expect("it stands");
+    say("moved", P, on(8)).expect("room");
+    ledger.take("one".into(), 3, message("M", "")).expect("held back");
+    let of = |kind, key, id| {
+        ledger.statements_of(kind, key, id).map(|(label, letters)| format!("{label} {letters}")).collect::<Vec<_>>()
+    };
+    assert_eq!(of(P, 9, 1), ["one RU", "two mu"]);
+    assert_eq!((of(Kind::Filter, 9, 1), of(P, 8, 1)), (vec!["other kind R".into()], vec!["moved R".into()]));
+    assert_eq!((of(Kind::Membership, 9, 1), of(P, 1, 9), of(P, 65_545, 1)), (vec![], vec![], vec![]));
+    assert_eq!((ledger.left("two"), ledger.left("ended"), ledger.left("nobody")), (half("um"), None, None));
+}
+
+#[test]
+fn statements_that_can_not_be_are_not_restored() {
+    let said = |left| Statement { kind: P, left, taken: 1 };
+    let restored = |room, statements: &[Statement]| Ledger::restore(room, statements.iter().copied().enumerate());
+    assert_eq!(restored(2_049, &[]).err(), Some(Refusal::BlockLength));
+    assert_eq!(restored(1, &[said(on(1)), said(on(2))]).err(), Some(Refusal::NoRoom));
+    assert_eq!(restored(1, &[said(on(1_024))]).err(), Some(Refusal::Name));
+    let twice = Ledger::restore(1, [("a", said(on(1))), ("a", said(on(2)))]).expect("room for one");
+    assert_eq!((twice.left("a"), lines(&twice)), (on(2), vec!["P2 1;R".to_string()]));
+}
+
+#[test]
+fn each_reason_has_its_words() {
+    let held = message("M", "");
+    let words = [
+        (
+            NotTaken::from(Refusal::NoRoom),
+            "refused with 8: after taking away (or removing the old set), the records do not fit",
+        ),
+        (NotTaken::SequenceZero, "the sequence number is 0, and the first message of a statement has 1"),
+        (NotTaken::OtherKind(P), "its statement is of kind P"),
+        (NotTaken::NotQuoted(None), "its statement left nothing, and it quotes something"),
+        (NotTaken::NotQuoted(half("RU")), "its statement left key 9, id 1, RU, and it does not quote that"),
+        (NotTaken::Conflicts(held), "another message with its sequence number is held back: P, from key 9, id 1, M to nothing"),
+        (NotTaken::OthersFirst, "messages of the statement are held back, which come first"),
+        (NotTaken::NothingHeldBack, "no message of the statement is held back"),
+        (NotTaken::SequenceUsedUp, "the statement has no sequence number left"),
+    ];
+    for (why, said) in words {
+        assert_eq!(why.to_string(), said);
+    }
+    assert_eq!(Why::Early.to_string(), "a message of its statement comes before it");
+    assert_eq!(NotTaken::from(Why::Early), NotTaken::OthersFirst);
+}

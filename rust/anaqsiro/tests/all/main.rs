@@ -1,0 +1,10 @@
+//! The tests of the crate from outside, all in one program.
+
+mod blocks;
+mod build;
+mod compared;
+mod ledgers;
+mod letters;
+mod messages;
+mod saved;
+mod streams;

@@ -1,0 +1,81 @@
+//! Kinds, halves, messages and refusals.
+
+use anaqsiro::{Block, Half, Kind, Letters, Message, Refusal, Rights};
+
+#[test]
+fn every_refusal_has_its_number() {
+    let numbers: Vec<u32> = Refusal::NAMED.iter().map(|refusal| refusal.number()).collect();
+    assert_eq!(numbers, (1..=10).collect::<Vec<_>>());
+    assert!(numbers.iter().zip(Refusal::NAMED).all(|(&number, &named)| Refusal::from_number(number) == Some(named)));
+    assert_eq!(Refusal::from_number(0), None);
+    for number in [11, 15, u32::MAX] {
+        assert_eq!(Refusal::from_number(number), Some(Refusal::Unknown(number)));
+        assert_eq!(Refusal::Unknown(number).number(), number);
+    }
+    assert_eq!(
+        Refusal::NoRoom.to_string(),
+        "refused with 8: after taking away (or removing the old set), the records do not fit"
+    );
+    assert_eq!(Refusal::Unknown(13).to_string(), "refused with 13: not a number of this version");
+}
+
+#[test]
+fn every_kind_has_its_number() {
+    assert_eq!(Kind::ALL.map(|kind| (kind.number(), kind.letter())), [(1, 'M'), (2, 'P'), (3, 'F')]);
+    assert_eq!([0, 4, 257, u64::MAX].map(Kind::from_number), [None; 4]);
+    assert!(Kind::ALL.into_iter().all(|kind| Kind::from_number(kind.number().into()) == Some(kind)));
+}
+
+/// The greatest half that there can be, and the least.
+fn halves() -> [Option<Half>; 3] {
+    [None, Some(Half::new(0, 1023, Rights::READ)), Some(Half::new(1023, 0, "MRUPmrup".parse::<Letters>().expect("letters")))]
+}
+
+#[test]
+fn a_message_is_taken_apart() {
+    for kind in Kind::ALL {
+        for previous in halves() {
+            for new in halves() {
+                let message = Message::new(kind, previous, new);
+                assert_eq!((message.kind(), message.halves()), (Some(kind), [previous, new]));
+                assert_eq!(Message::try_from(message.as_ref()), Ok(message));
+            }
+        }
+    }
+    let bytes = [1, 3, 1, 2, 3, 0, 5, 7, 0, 0, 1, 16];
+    let [previous, new] = Message(bytes).halves();
+    assert_eq!(previous, Some(Half::new(513, 3, Rights::CREATE | Rights::UPDATE)));
+    assert_eq!(new, Some(Half::new(7, 256, Letters::NO_CREATE)));
+    assert_eq!(Message(bytes).to_string(), "M, from key 513, id 3, MU to key 7, id 256, m");
+    assert_eq!(Message([9; Message::BYTES]).kind(), None);
+}
+
+#[test]
+fn other_lengths_are_no_message() {
+    for length in (0..40).filter(|&length| length != Message::BYTES) {
+        assert_eq!(Message::try_from(&vec![1; length][..]), Err(Refusal::Form));
+    }
+}
+
+/// A name that 16 bits do not hold is refused wherever it is given, and 65,537 is not taken for 1.
+#[test]
+fn a_name_is_not_cut() {
+    let mut block = Block::with_room(4).expect("room");
+    let give = |key, id| Message::new(Kind::Permission, None, Some(Half::new(key, id, Rights::READ)));
+    block.apply(give(1, 1)).expect("names");
+    let before = block.clone();
+    for name in [1024, 65_535, 65_536, 65_537, (1 << 32) + 1, u64::MAX] {
+        assert_eq!(block.apply(give(name, 1)), Err(Refusal::Name));
+        assert_eq!(block.apply(give(1, name)), Err(Refusal::Name));
+        assert_eq!(
+            block.apply(Message::new(Kind::Permission, Some(Half::new(name, 1, Rights::READ)), None)),
+            Err(Refusal::Name)
+        );
+        assert_eq!(block.rights(name, 1, Rights::ALL), Err(Refusal::Name));
+        assert_eq!(block.may(1, name, Rights::READ), Err(Refusal::Name));
+        assert_eq!(block.set_text(Kind::Permission, name), Err(Refusal::Name));
+        assert_eq!(block.read_set(Kind::Permission, name, "1;R"), Err(Refusal::Name));
+        assert_eq!(block.mentions(name).err(), Some(Refusal::Name));
+    }
+    assert_eq!(block, before);
+}
