@@ -4,11 +4,13 @@ pub mod Numbers
 pub mod Block
 pub mod Doors
 pub mod Message
-pub mod Listed
-pub mod Wide
 pub mod Text
 pub mod Calls
 pub mod History
+-- What the builder of a crate above reads: a list of changes.
+pub mod Listed
+-- 02, M-100: wide messages, whose call is still to come.
+pub mod Wide
 -- What only proofs need.
 pub mod Places
 pub mod Checks

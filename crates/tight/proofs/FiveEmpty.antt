@@ -3,7 +3,7 @@ use Prim.Native.Nat.{ℕ, _<_, _≤_}
 use mathlib.Core.Path.{_≡_, refl, sym, ap, subst, _∙_}
 use mathlib.Core.List.{List, [], _∷_}
 use native.Mathlib.Omega.{arith}
-use lib.ListN.{getD}
+use lib.ListN.{length, getD}
 use Rattle.index.specs.declared.Kind.{Kind}
 use Rattle.index.specs.declared.Kind.the-variants.{Permission}
 use Rattle.index.specs.Letters.{letterCount, lettersOf}
@@ -49,7 +49,8 @@ module _ (p : Program) (meets : Meets p) where
   pub not-idle : ChangesNothing p → ⊥
   unfolding Sized number countAt lettersOf IsKind kindOf
   not-idle (ChangesNothing.makes keeps) =
-      let same : nothing ≡ zeros 36 = rw (does.makes p meets (made (zeros 36) refl)) at (keeps (zeros 36)) in
+      let blank = zeros (length nothing) in
+      let same : nothing ≡ blank = rw (does.makes p meets (made blank refl)) at (keeps blank) in
       omega (arith, ap (λ (b : List ℕ). getD b 8 0) same)
   not-idle (ChangesNothing.messages keeps) =
       let same : reads 1 ≡ nothing = rw (does.does p meets first-given) at (keeps nothing give) in

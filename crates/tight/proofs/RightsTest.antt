@@ -7,8 +7,8 @@ use mathlib.Core.Logic.{_↔_, inr}
 use native.Mathlib.Omega.{arith}
 use borrow.Author.Tests.{eqb-true, eq-eqb, ltb-true}
 use lib.Dec.{eqb, ltb}
-use Rattle.index.specs.Letters.{In}
-use Rattle.index.specs.Block.{IsName, Good}
+use Rattle.index.specs.Letters.{rightCount, allRights, In}
+use Rattle.index.specs.Block.{nameCount, IsName, Good}
 use Rattle.index.specs.Calls.{blockNeeds}
 use Rattle.index.proofs.Masks.{in-all}
 use Rattle.index.proofs.Tests.{both, all, all-at}
@@ -33,30 +33,30 @@ module _ (b : List ℕ) (u mask : ℕ) where
   rightTest o k = same (eqb (mask / 2 ^ k % 2) 1) (holdsTest b u o k)
 
   abbrev objectTest : ℕ → Bool
-  objectTest o = all (rightTest o) 0 4
+  objectTest o = all (rightTest o) 0 rightCount
 
   -- What is tested whatever the object.
   abbrev userTest : Bool
-  userTest = blockTest b && (ltb u 1024 && ltb mask 16)
+  userTest = blockTest b && (ltb u nameCount && ltb mask (2 ^ rightCount))
 
   abbrev pub rightsTest : ℕ → Bool
-  rightsTest o = userTest && (ltb o 1024 && objectTest o)
+  rightsTest o = userTest && (ltb o nameCount && objectTest o)
 
   abbrev pub everywhereTest : Bool
-  everywhereTest = userTest && all objectTest 0 1024
+  everywhereTest = userTest && all objectTest 0 nameCount
 
-  object-test : Good b → (o : ℕ) → objectTest o ≡ true → (k : ℕ) → k < 4 → In k mask ↔ (Holds b u o k × In k 15)
+  object-test : Good b → (o : ℕ) → objectTest o ≡ true → (k : ℕ) → k < rightCount → In k mask ↔ (Holds b u o k × In k allRights)
   object-test g o e k l =
-      let s = same-true _ _ (all-at (rightTest o) 0 4 e k (omega arith) (omega arith)) in (
+      let s = same-true _ _ (all-at (rightTest o) 0 rightCount e k (omega arith) (omega arith)) in (
         (λ i. (holds-test g u o k .0 (sym s ∙ eq-eqb _ _ i), in-all k l)),
         (λ h. eqb-true _ _ (s ∙ holds-test g u o k .1 (h .0))),
       )
 
-  full : userTest ≡ true → (o : ℕ) → IsName o → objectTest o ≡ true → Full b u o 15 (0, mask)
+  full : userTest ≡ true → (o : ℕ) → IsName o → objectTest o ≡ true → Full b u o allRights (0, mask)
   unfolding Full questionNeeds blockNeeds Limited
   full e o n h =
       let p = both (blockTest b) _ e in
-      let q = both (ltb u 1024) (ltb mask 16) (p .1) in
+      let q = both (ltb u nameCount) (ltb mask (2 ^ rightCount)) (p .1) in
       let t = block-test b (p .0) in
       inr (
         t .0,
@@ -69,13 +69,13 @@ module _ (b : List ℕ) (u mask : ℕ) where
         ),
       )
 
-  pub rights-test : (o : ℕ) → rightsTest o ≡ true → Full b u o 15 (0, mask)
+  pub rights-test : (o : ℕ) → rightsTest o ≡ true → Full b u o allRights (0, mask)
   rights-test o e =
       let p = both userTest _ e in
-      let q = both (ltb o 1024) (objectTest o) (p .1) in
+      let q = both (ltb o nameCount) (objectTest o) (p .1) in
       full (p .0) o (ltb-true _ _ (q .0)) (q .1)
 
-  pub everywhere-test : everywhereTest ≡ true → (o : ℕ) → IsName o → Full b u o 15 (0, mask)
+  pub everywhere-test : everywhereTest ≡ true → (o : ℕ) → IsName o → Full b u o allRights (0, mask)
   everywhere-test e o n =
       let p = both userTest _ e in
-      full (p .0) o n (all-at objectTest 0 1024 (p .1) o (omega arith) n)
+      full (p .0) o n (all-at objectTest 0 nameCount (p .1) o (omega arith) n)

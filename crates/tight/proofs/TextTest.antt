@@ -11,7 +11,7 @@ use lib.ListN.{length, drop}
 use Rattle.index.specs.declared.Kind.{Kind}
 use Rattle.index.specs.declared.Kind.the-variants.{Membership, Permission, Filter}
 use Rattle.index.specs.Letters.{letterCount}
-use Rattle.index.specs.Block.{IsName, Sized, Good, records, room, count}
+use Rattle.index.specs.Block.{IsName, Sized, Good, records, room, count, nameCount}
 use Rattle.index.specs.Message.{IsKind, kindOf}
 use Rattle.index.specs.Text.{Entry, textOf, setOf, IsSet, Writes, countIn, Replaced}
 use Rattle.index.specs.Calls.{blockNeeds, setNeeds, writeNeeds, readNeeds, Read, WritesSet, ReadsSet}
@@ -28,7 +28,7 @@ use Rattle.tight.proofs.BlockTest.{blockTest, block-test}
 -- ---- the text of a set
 
 abbrev pub setTest : List ℕ → ℕ → ℕ → Bool
-setTest b kind x = blockTest b && (leb 1 kind && (leb kind 3 && ltb x 1024))
+setTest b kind x = blockTest b && (leb 1 kind && (leb kind 3 && ltb x nameCount))
 
 -- What a call about a set needs first.
 record Set (b : List ℕ) (kind x : ℕ) : Type 0 where
@@ -42,7 +42,7 @@ unfolding IsKind
 set-test b kind x e =
     let p = both (blockTest b) _ e in
     let q = both (leb 1 kind) _ (p .1) in
-    let r = both (leb kind 3) (ltb x 1024) (q .1) in
+    let r = both (leb kind 3) (ltb x nameCount) (q .1) in
     let t = block-test b (p .0) in
     record { sized = t .0; good = t .1; is-kind = (leb-true _ _ (q .0), leb-true _ _ (r .0)); named = ltb-true _ _ (r .1) }
 

@@ -3,6 +3,7 @@ use Prim.Native.Nat.{ℕ, _≤_}
 use mathlib.Core.Path.{_≡_}
 use mathlib.Core.List.{List, [], _∷_, _++_}
 use lib.ListN.{length, drop}
+use Rattle.index.specs.Letters.{allRights}
 use Rattle.index.specs.Block.{IsName, Sized, Good}
 use Rattle.index.specs.Message.{IsKind}
 use Rattle.index.specs.Calls.{Message, WritesSet, ReadsSet}
@@ -30,8 +31,8 @@ abbrev pub Anywhere : (List ℕ → ℕ → ℕ → Type 0) → Type 0
 Anywhere P = (b : List ℕ) (kind x : ℕ) → Sized b → Good b → IsKind kind → IsName x → P b kind x
 
 abbrev pub Shows : Case → Type 0
-Shows (Case.rights b u o mask) = Full b u o 15 (0, mask)
-Shows (Case.everywhere b u mask) = (o : ℕ) → IsName o → Full b u o 15 (0, mask)
+Shows (Case.rights b u o mask) = Full b u o allRights (0, mask)
+Shows (Case.everywhere b u mask) = (o : ℕ) → IsName o → Full b u o allRights (0, mask)
 Shows (Case.text b kind x t n) =
     ((out : List ℕ) → length t ≤ length out → WritesSet b kind x out (0, length t, t ++ drop (length t) out))
     × ReadsSet b kind x t (0, n, b)
