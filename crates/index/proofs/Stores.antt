@@ -12,6 +12,3 @@ sets-append l i [] ws = let e : i + 0 ≡ i = omega arith in ap (λ (k : ℕ). s
 sets-append l i (a ∷ vs) ws =
     let e : suc i + length vs ≡ i + suc (length vs) = omega arith in
     sets-append (set l i a) (suc i) vs ws ∙ ap (λ (k : ℕ). sets (sets (set l i a) (suc i) vs) k ws) e
-
-pub sets-snoc : (l : List ℕ) (i : ℕ) (vs : List ℕ) (a : ℕ) → sets l i (vs ++ (a ∷ [])) ≡ set (sets l i vs) (i + length vs) a
-sets-snoc l i vs a = sets-append l i vs (a ∷ [])

@@ -1,6 +1,6 @@
 -- What was read, taken apart.
 use Prim.Native.Nat.{ℕ}
-use mathlib.Core.Path.{_≡_, refl, sym, ap, _∙_}
+use mathlib.Core.Path.{_≡_, refl}
 use mathlib.Core.Bool.{Bool, true, false, cond, _&&_}
 use mathlib.Core.List.{List}
 use mathlib.Core.Logic.{_⊎_, inl, inr}
@@ -28,7 +28,3 @@ cond-inv false x y e = inr (refl, e)
 pub and-true : (a b : Bool) → (a && b) ≡ true → (a ≡ true) × (b ≡ true)
 and-true true b e = (refl, e)
 and-true false b e = let z : _≡_ {A = ℕ} 0 1 = cc in absurd (omega arith)
-
--- what is handed on, once it is known what was read
-pub then-of : {A B : Type 0} {x y z : Parsed A} (f : A → List ℕ → Parsed B) → y ≡ x → y ≡ z → andThen x f ≡ andThen z f
-then-of f e d = ap (λ x. andThen x f) (sym e ∙ d)
