@@ -1,7 +1,10 @@
 -- What a yes or no that is right says.
-use mathlib.Core.Path.{_≡_, subst}
+use Prim.Native.Nat.{ℕ, _<_}
+use mathlib.Core.Path.{_≡_, refl, subst}
 use mathlib.Core.Bool.{Bool, true, false, not}
-use borrow.Author.Tests.{not-true, not-false}
+use native.Mathlib.Omega.{arith}
+use borrow.Author.Tests.{not-true, not-false, ltb-true, ltb-false}
+use lib.Dec.{ltb}
 use Rattle.index.specs.Checks.{Says}
 
 pub yes-is : {P : Type 0} {t : Bool} → t ≡ true → Says P t → P
@@ -20,3 +23,11 @@ no-not {P} t e p s = no-is {P = P} (not-true t e) p s
 pub says-same : {P Q : Type 0} (t : Bool) → (P → Q) → (Q → P) → Says P t → Says Q t
 says-same true f g s = f s
 says-same false f g s = λ q. s (g q)
+
+-- The test of two numbers is right about them.
+pub less-says : (a b : ℕ) → Says (a < b) (ltb a b)
+less-says a b = go (ltb a b) refl
+  where
+    go : (t : Bool) → ltb a b ≡ t → Says (a < b) t
+    go true e = ltb-true a b e
+    go false e = λ h. absurd (omega (arith, ltb-false a b e))

@@ -1,46 +1,62 @@
--- A mask that letters are joined to, one after the other.
-use Prim.Native.Nat.{ℕ, _+_, _/_, _%_, _^_, _<_, _≤_}
-use mathlib.Core.Path.{_≡_}
+-- The net mask, right by right: a mask that letters are put into, one after the other, and the decision on each.
+use Prim.Native.Nat.{ℕ, zero, suc, _+_, _^_, _<_}
+use mathlib.Core.Path.{_≡_, refl, sym, subst}
+use mathlib.Core.Bool.{Bool, true, false, _&&_, not}
+use mathlib.Core.List.{List}
 use mathlib.Core.Logic.{_↔_, inl, inr, ⊎-elim}
 use native.Mathlib.Omega.{arith}
-use native.Mathlib.Nat.{eq-or-lt-of-le}
-use lib.Bits.{bitOr}
-use Rattle.index.specs.Letters.{In}
-use Rattle.index.proofs.Masks.{in-or, in-or-out, in-power}
+use native.Mathlib.Nat.{eq-or-lt-of-le, div-eq-of-lt, pow-suc}
+use lib.Bits.{bitOr, or-lt}
+use Rattle.index.specs.Letters.{In, rightCount}
+use Rattle.index.specs.Block.{countAt}
+use Rattle.index.specs.Checks.{Says}
+use Rattle.index.specs.Doors.{NetAt}
+use Rattle.index.proofs.Answer.{yes-is, no-is}
+use Rattle.index.proofs.Masks.{in-or, in-power}
 
--- m has those of the first k letters that have a count above zero.
-abbrev pub Joined : (ℕ → ℕ) → ℕ → ℕ → Type 0
-Joined count k m = (j : ℕ) → In j m ↔ ((j < k) × (0 < count j))
+-- m is the mask of those of the first n letters that P holds of. Of the four rights that is `Mask m P`.
+abbrev pub Joined : (ℕ → Type 0) → ℕ → ℕ → Type 0
+Joined P n m = (m < 2 ^ n) × ((k : ℕ) → k < n → In k m ↔ P k)
 
-module _ (count : ℕ → ℕ) (m k : ℕ) (inv : Joined count k m) where
-  join : 0 < count k → Joined count (k + 1) (bitOr m (2 ^ k))
-  join pos j = (
-    (λ h.
-        ⊎-elim (λ x. let p = inv j .0 x in (omega (arith, p .0), p .1))
-        (λ x. let q : j ≡ k = in-power k j .0 x in (omega arith, rw q pos))
-        (in-or m (2 ^ k) j .0 h)),
-    (λ h.
-        in-or m (2 ^ k) j .1
-        (⊎-elim (λ q. inr (in-power k j .1 q)) (λ l. inl (inv j .1 (l, h .1)))
-        (eq-or-lt-of-le {n = j} {m = k} (omega (arith, h .0))))),
+pub none : (P : ℕ → Type 0) → Joined P 0 0
+none P = (omega arith, λ k h. absurd (omega arith))
+
+module _ (P : ℕ → Type 0) (n m : ℕ) (so-far : Joined P n m) where
+  -- Letter n, then the letters before it.
+  next : (m′ : ℕ) → m′ < 2 ^ (suc n) → In n m′ ↔ P n → ((k : ℕ) → k < n → In k m′ ↔ In k m) → Joined P (suc n) m′
+  next m′ small last others = (
+    small,
+    λ k h.
+        ⊎-elim (λ q. subst (λ (j : ℕ). In j m′ ↔ P j) (sym q) last)
+        (λ l. ((λ x. so-far .1 k l .0 (others k l .0 x)), (λ p. others k l .1 (so-far .1 k l .1 p))))
+        (eq-or-lt-of-le {n = k} {m = n} (omega arith)),
   )
 
-  skip : count k ≤ 0 → Joined count (k + 1) m
-  skip none j = (
-    (λ h. let p = inv j .0 h in (omega (arith, p .0), p .1)),
-    (λ h.
-        ⊎-elim (λ q. let p : 0 < count k = rw q at (h .1) in absurd (omega arith)) (λ l. inv j .1 (l, h .1))
-        (eq-or-lt-of-le {n = j} {m = k} (omega (arith, h .0)))),
-  )
+  -- The code goes by a test t that is right about letter n: the letter's mask is put in, or left out.
+  pub put-in : {t : Bool} (m′ mask : ℕ) → Says (P n) t → t ≡ true → m′ ≡ bitOr m mask → mask ≡ 2 ^ n → Joined P (suc n) m′
+  put-in m′ mask said taken e is =
+      rw (e, is)
+      (next (bitOr m (2 ^ n))
+      (or-lt (suc n) m (2 ^ n) (omega (arith, so-far .0, pow-suc 2 n)) (omega (arith, so-far .0, pow-suc 2 n)))
+      ((λ x. yes-is {P = P n} taken said), (λ p. in-or m (2 ^ n) n .1 (inr (in-power n n .1 refl))))
+      (λ k l. (
+        (λ x. ⊎-elim (λ i. i) (λ i. absurd (omega (arith, in-power n k .0 i))) (in-or m (2 ^ n) k .0 x)),
+        (λ i. in-or m (2 ^ n) k .1 (inl i)),
+      )))
 
-  -- As the code has it.
-  pub joined : (m′ mask : ℕ) → m′ ≡ bitOr m mask → mask ≡ 2 ^ k → 0 < count k → Joined count (k + 1) m′
-  joined m′ mask e is pos = rw (e, is) (join pos)
+  pub left-out : {t : Bool} (m′ : ℕ) → Says (P n) t → t ≡ false → m′ ≡ m → Joined P (suc n) m′
+  left-out m′ said left e =
+      rw e
+      (next m (omega (arith, so-far .0, pow-suc 2 n))
+      ((λ x. absurd (omega (arith, div-eq-of-lt (so-far .0)))), (λ p. absurd (no-is {P = P n} left p said)))
+      (λ k l. ((λ i. i), (λ i. i))))
 
-  pub skipped : (m′ : ℕ) → m′ ≡ m → count k ≤ 0 → Joined count (k + 1) m′
-  skipped m′ e none = rw e (skip none)
-
--- A letter is in the mask where its count is above zero, so it is not where there is none.
-pub no-count : (m j n : ℕ) → In j m ↔ (0 < n) → (m / 2 ^ j % 2 ≡ 0) ↔ (n ≡ 0)
-no-count m j ℕ.zero told = ((λ z. omega arith), (λ e. ⊎-elim (λ z. z) (λ o. absurd (omega (arith, told .0 o))) (in-or-out j m)))
-no-count m j (ℕ.suc n) told = ((λ z. absurd (omega (arith, told .1 (omega arith)))), (λ e. absurd (omega arith)))
+-- The decision on right k, by a test x of its capital letter's count and a test y of its small letter's.
+pub decided : (b : List ℕ) (i k : ℕ) (x y : Bool) → Says (0 < countAt b i k) x → Says (0 < countAt b i (k + rightCount)) y → Says (NetAt b i k) (x && not y)
+decided b i k true true capital small = λ h. absurd (omega (arith, h .1))
+decided b i k true false capital small = (capital, le-zero (countAt b i (k + rightCount)) small)
+  where
+    le-zero : (n : ℕ) → (0 < n → ⊥) → n ≡ 0
+    le-zero zero h = refl
+    le-zero (suc n) h = absurd (h (omega arith))
+decided b i k false y capital small = λ h. capital (h .0)

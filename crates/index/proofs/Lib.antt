@@ -14,6 +14,7 @@ pub mod Entering
 pub mod Filling
 pub mod Finding
 pub mod Firsts
+pub mod Formula
 pub mod GoodTest
 pub mod HalfLetters
 pub mod Halves

@@ -1,12 +1,12 @@
--- The rights in a mask: what and, or and the net mask's formula do to them, and that they fix the mask.
+-- The rights in a mask: what `and` and `or` do to them, and that they fix the mask.
 use Prim.Native.Nat.{ℕ, zero, suc, _+_, _*_, _-_, _/_, _%_, _^_, _<_, _≤_, min, max}
 use mathlib.Core.Path.{_≡_, refl, subst, sym, ap, _∙_}
 use mathlib.Core.Logic.{_↔_, _⊎_, inl, inr, ⊎-elim}
 use native.Mathlib.Omega.{arith}
 use native.Mathlib.Nat.{zero-div, div-eq-of-lt, eq-or-lt-of-le, pow-suc, one-mul, div-div-eq-div-mul}
-use lib.Bits.{bitAnd, bitOr, bitXor, or-shr, and-shr, or-step, and-step, or-lt, and-le-l, and-mask, xor-add-and}
+use lib.Bits.{bitAnd, bitOr, or-shr, and-shr, or-step, and-step, or-lt, and-le-l}
 use lib.Pow.{pow-add, pow-lt, shl-shr}
-use Rattle.index.specs.Letters.{In, letterCount, rightCount, allRights}
+use Rattle.index.specs.Letters.{In, rightCount, allRights}
 use Rattle.index.specs.Doors.{Mask}
 use Rattle.index.proofs.Range.{lt-or-le}
 
@@ -67,25 +67,6 @@ four P a b c d (suc (suc (suc (suc k)))) h = absurd (omega arith)
 
 pub in-all : (k : ℕ) → k < rightCount → In k allRights
 in-all = four (λ k. In k allRights) refl refl refl refl
-
--- The formula of the net mask: a capital letter of m whose small letter m has not.
-abbrev netMask : ℕ → ℕ
-netMask m = bitAnd (bitAnd (bitXor (m / 2 ^ rightCount) allRights) m) allRights
-
--- The small letters of m, the other way round.
-without : (m : ℕ) → m < 2 ^ letterCount → (k : ℕ) → k < rightCount → bitXor (m / 2 ^ rightCount) allRights / 2 ^ k % 2 + m / 2 ^ (k + rightCount) % 2 ≡ 1
-without m h =
-    let e : bitXor (m / 2 ^ rightCount) allRights ≡ allRights - m / 2 ^ rightCount = omega (arith, xor-add-and (m / 2 ^ rightCount) allRights, and-mask (m / 2 ^ rightCount) rightCount) in
-    rw e
-    (four (λ k. (allRights - m / 2 ^ rightCount) / 2 ^ k % 2 + m / 2 ^ (k + rightCount) % 2 ≡ 1) (omega arith) (omega arith) (omega arith) (omega arith))
-
-pub in-net : (m k : ℕ) → m < 2 ^ letterCount → k < rightCount → In k (netMask m) ↔ (In k m × (m / 2 ^ (k + rightCount) % 2 ≡ 0))
-in-net m k hm hk =
-    let x = bitXor (m / 2 ^ rightCount) allRights in
-    let w = without m hm k hk in (
-      (λ h. let p = in-and x m k .0 (in-and (bitAnd x m) allRights k .0 h .0) in (p .1, omega (arith, p .0))),
-      (λ h. in-and (bitAnd x m) allRights k .1 (in-and x m k .1 (omega (arith, h .1), h .0), in-all k hk)),
-    )
 
 -- ---- masks
 

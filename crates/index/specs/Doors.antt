@@ -1,9 +1,12 @@
 -- What the doors to a block answer with: the rights in a mask, and 01, "The rights", the net mask of a record by its number.
-use Prim.Native.Nat.{ℕ, _+_, _^_, _<_}
+use Prim.Native.Nat.{ℕ, _+_, _/_, _%_, _^_, _<_}
 use mathlib.Core.Path.{_≡_}
+use mathlib.Core.Bool.{cond}
 use mathlib.Core.List.{List}
 use mathlib.Core.Logic.{_↔_}
-use Rattle.index.specs.Letters.{rightCount, In}
+use lib.Bits.{bitAnd, bitXor}
+use lib.Dec.{ltb}
+use Rattle.index.specs.Letters.{letterCount, rightCount, In}
 use Rattle.index.specs.Block.{countAt}
 
 -- r is the mask of the rights that P holds of.
@@ -14,3 +17,13 @@ Mask r P = (r < 2 ^ rightCount) × ((k : ℕ) → k < rightCount → In k r ↔ 
 -- zero." Right k is in the net mask of record i: its small letter is the one four places on.
 abbrev pub NetAt : List ℕ → ℕ → ℕ → Type 0
 NetAt b i k = (0 < countAt b i k) × (countAt b i (k + rightCount) ≡ 0)
+
+-- "For one statement this equals 000's formula." One statement with this mask left record i: each letter of the mask stands
+-- in it once.
+abbrev pub OneStatement : List ℕ → ℕ → ℕ → Type 0
+OneStatement b i mask = (k : ℕ) → k < letterCount → countAt b i k ≡ mask / 2 ^ k % 2
+
+-- 000's formula, with 000's own numbers. A mask without small letters stays as it is. Else its small letters (240 is the mask of
+-- all four) are brought four places down and turned over, and of what that gives the letters of the mask are left.
+abbrev pub formula : ℕ → ℕ
+formula mask = cond (ltb 15 mask) (bitAnd (bitXor (bitAnd mask 240 / 2 ^ 4) 15) mask) mask

@@ -1,17 +1,22 @@
 // What a crate above reads of a block. Every door answers for every input: bytes past the end count as 0.
 
-use crate::ALL;
 use crate::HEADER;
 use crate::Kind;
 use crate::LETTER_COUNT;
 use crate::RECORD;
-use crate::RIGHTS;
-use crate::letters::letter_at;
+use crate::letters::CAPITAL_M;
+use crate::letters::CAPITAL_P;
+use crate::letters::CAPITAL_R;
+use crate::letters::CAPITAL_U;
+use crate::letters::SMALL_M;
+use crate::letters::SMALL_P;
+use crate::letters::SMALL_R;
+use crate::letters::SMALL_U;
+use crate::letters::mask_of;
 ghost use mathlib.Core.Path.{_≡_};
-ghost use mathlib.Core.Logic.{_↔_};
-ghost use Prim.Native.Nat.{ℕ, _^_, _<_};
-ghost use Rattle.index.specs.Letters.{In, letterCount};
+ghost use Prim.Native.Nat.{_^_, _<_};
 ghost use Rattle.index.specs.Block.{number, size, key, id, countAt};
+ghost use Rattle.index.specs.Checks.{Says};
 ghost use Rattle.index.specs.Doors.{Mask, NetAt};
 
 // The 16-bit number at a byte.
@@ -64,24 +69,31 @@ pub fn count_of(b: &[u8], i: u16, k: u8) -> u16
     0
 }
 
-// The letters of record i with a count above zero, as a mask.
-fn mask_of(b: &[u8], i: u16) -> u8
-    ensures { λ r. ⌜ ((k : ℕ) → k < letterCount → In k r ↔ (0 < countAt (now (b .entry)) i k)) ⌝ }
+// Letter k has a count above zero in record i.
+fn above_zero(b: &[u8], i: u16, k: u8) -> bool
+    ensures { λ r. ⌜ Says (0 < countAt (now (b .entry)) i k) r ⌝ }
 {
-    let mut m: u8 = 0;
-    for k in 0..LETTER_COUNT {
-        let letter = letter_at(k);
-        if 0 < count_of(b, i, k as u8) {
-            m = m | letter.mask;
-        }
-    }
-    m
+    0 < count_of(b, i, k)
 }
 
-// The net mask of record i.
+// The net mask of record i: "its capital letters with a count above zero, less those whose small letter has a count above zero".
+// M-104: "Write it out as four plain decisions, one a right, as 01's sentence has it." Both counts are looked at (`&`, not `&&`),
+// which leaves the processor nothing to guess.
 pub fn net_of(b: &[u8], i: u16) -> u8
     ensures { λ r. ⌜ Mask r (NetAt (now (b .entry)) i) ⌝ }
 {
-    let m = mask_of(b, i);
-    ((m >> RIGHTS) ^ ALL) & m & ALL
+    let mut net: u8 = 0;
+    if above_zero(b, i, CAPITAL_M) & !above_zero(b, i, SMALL_M) {
+        net = net | mask_of(CAPITAL_M);
+    }
+    if above_zero(b, i, CAPITAL_R) & !above_zero(b, i, SMALL_R) {
+        net = net | mask_of(CAPITAL_R);
+    }
+    if above_zero(b, i, CAPITAL_U) & !above_zero(b, i, SMALL_U) {
+        net = net | mask_of(CAPITAL_U);
+    }
+    if above_zero(b, i, CAPITAL_P) & !above_zero(b, i, SMALL_P) {
+        net = net | mask_of(CAPITAL_P);
+    }
+    net
 }

@@ -49,12 +49,38 @@ pub const LETTERS: [Letter; LETTER_COUNT] = [
     },
 ];
 
+// The place of each letter in the table: the capital letters, which are the rights, then the small letters, which deny them.
+pub(crate) const CAPITAL_M: u8 = 0;
+
+pub(crate) const CAPITAL_R: u8 = 1;
+
+pub(crate) const CAPITAL_U: u8 = 2;
+
+pub(crate) const CAPITAL_P: u8 = 3;
+
+pub(crate) const SMALL_M: u8 = 4;
+
+pub(crate) const SMALL_R: u8 = 5;
+
+pub(crate) const SMALL_U: u8 = 6;
+
+pub(crate) const SMALL_P: u8 = 7;
+
 // Letter k, in letter order.
 pub(crate) fn letter_at(k: usize) -> Letter
     requires { ⌜ k < letterCount ⌝ }
     ensures { λ r. ⌜ (r .mask ≡ 2 ^ k) × (r .byte ≡ getD letters k 0) ⌝ }
 {
     LETTERS[k]
+}
+
+// The mask of letter k.
+pub(crate) fn mask_of(k: u8) -> u8
+    requires { ⌜ k < letterCount ⌝ }
+    ensures { λ r. ⌜ r ≡ 2 ^ k ⌝ }
+{
+    let letter = letter_at(k as usize);
+    letter.mask
 }
 
 // The bytes of all letters. A reader takes them from the table once, since taking an entry copies the table.
