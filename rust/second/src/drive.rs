@@ -2,7 +2,7 @@
 //! guard bytes around each buffer. A run keeps count of what it met, and says what it should have met and did not.
 
 use crate::gen::{self, Rng};
-use crate::{granted, letters, passes, word, Index, ALL, CHAIN, COUNTS, HEADER, KINDS, LAST, LETTERS, M, NAMES, RECORD};
+use crate::{denied, granted, letters, meets, passes, word, Index, ALL, CHAIN, COUNTS, HEADER, KINDS, LAST, LETTERS, M, NAMES, RECORD};
 use std::collections::{BTreeMap, BTreeSet};
 use std::ops::Range;
 
@@ -69,6 +69,7 @@ const TO_MEET: &[(&str, &str, &[i64])] = &[
     ("rights", "held", &[1, 2, 4, 8]),
     ("rights", "not held", &[1, 2, 4, 8]),
     ("rights", "granted, and not in the filter", &[1, 2, 4, 8]),
+    ("rights", "not granted for a denial alone", &[1, 2, 4, 8]),
     ("rights", "granted only by a chain as long as", &[CHAIN as i64]),
     ("rights", "not granted but by a chain as long as", &[CHAIN as i64 + 1]),
     ("may", "number", &[0, 1, 2, 4, 5]),
@@ -229,6 +230,9 @@ impl Call<'_> {
         let (filtered, long) = (!passes(index, object, right), index.parts[M].len() >= CHAIN);
         if filtered && by(CHAIN) {
             self.saw("granted, and not in the filter", 1 << right);
+        }
+        if !held && !filtered && meets(index, user, object, right, CHAIN, denied) {
+            self.saw("not granted for a denial alone", 1 << right);
         }
         if long && held && !by(CHAIN - 1) {
             self.saw("granted only by a chain as long as", CHAIN as i64);

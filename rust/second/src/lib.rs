@@ -239,6 +239,11 @@ fn carries(counts: &Counts, right: usize) -> bool {
     counts[right] > 0 && counts[right + RIGHTS] == 0
 }
 
+/// Whether the right is given, and a denial beside it takes it away.
+fn denied(counts: &Counts, right: usize) -> bool {
+    counts[right] > 0 && counts[right + RIGHTS] > 0
+}
+
 /// The names that a chain of at most `limit` M records leads to from `start`, each record with the right.
 fn reached(memberships: &Part, start: u16, right: usize, limit: usize) -> BTreeSet<u16> {
     let links: Vec<(u16, u16)> = memberships.iter().filter(|(_, c)| carries(c, right)).map(|(&n, _)| n).collect();
@@ -267,12 +272,16 @@ fn passes(index: &Index, object: u16, right: usize) -> bool {
     filter(index, object).is_none_or(|counts| carries(counts, right))
 }
 
-/// Whether a P record grants the right, over chains of at most `limit` records.
-fn granted(index: &Index, user: u16, object: u16, right: usize, limit: usize) -> bool {
+/// Whether a P record with such counts is reached for the right from both sides, over chains of at most `limit` records.
+fn meets(index: &Index, user: u16, object: u16, right: usize, limit: usize, such: fn(&Counts, usize) -> bool) -> bool {
     let users = reached(&index.parts[M], user, right, limit);
     let mut objects = reached(&index.parts[M], object, right, limit);
     objects.insert(0);
-    index.parts[P].iter().any(|(&(g, s), c)| carries(c, right) && objects.contains(&g) && users.contains(&s))
+    index.parts[P].iter().any(|(&(g, s), c)| such(c, right) && objects.contains(&g) && users.contains(&s))
+}
+
+fn granted(index: &Index, user: u16, object: u16, right: usize, limit: usize) -> bool {
+    meets(index, user, object, right, limit, carries)
 }
 
 fn holds(index: &Index, user: u16, object: u16, right: usize) -> bool {

@@ -31,6 +31,7 @@ const FAULTS: &[(&str, &str, &str)] = &[
     ("a chain may have one record less", "    for _ in 0..CHAIN {", "    for _ in 0..CHAIN - 1 {"),
     ("name 0 does not count", "    objects[0] = ALL;\n", ""),
     ("denials are not looked at", "    mask & !(mask >> RIGHTS) & ALL", "    mask & ALL"),
+    ("the denial of update is forgotten", "    mask & !(mask >> RIGHTS) & ALL", "    mask & !(mask >> RIGHTS & 11) & ALL"),
     ("the filter is skipped", "let limit = filter(b, object as usize) & request;", "let limit = request;"),
     ("the object's own filter is skipped", "    of(object)\n        .or_else", "    None\n        .or_else"),
     ("the request is not applied", "let limit = filter(b, object as usize) & request;", "let limit = filter(b, object as usize);"),
