@@ -1,5 +1,5 @@
 -- The net mask, right by right: a mask that letters are put into, one after the other, and the decision on each.
-use Prim.Native.Nat.{ℕ, zero, suc, _+_, _^_, _<_}
+use Prim.Native.Nat.{ℕ, suc, _+_, _^_, _<_}
 use mathlib.Core.Path.{_≡_, refl, sym, subst}
 use mathlib.Core.Bool.{Bool, true, false, _&&_, not}
 use mathlib.Core.List.{List}
@@ -13,6 +13,7 @@ use Rattle.index.specs.Checks.{Says}
 use Rattle.index.specs.Doors.{NetAt}
 use Rattle.index.proofs.Answer.{yes-is, no-is}
 use Rattle.index.proofs.Masks.{in-or, in-power}
+use Rattle.index.proofs.Range.{lt-or-le}
 
 -- m is the mask of those of the first n letters that P holds of. Of the four rights that is `Mask m P`.
 abbrev pub Joined : (ℕ → Type 0) → ℕ → ℕ → Type 0
@@ -54,9 +55,8 @@ module _ (P : ℕ → Type 0) (n m : ℕ) (so-far : Joined P n m) where
 -- The decision on right k, by a test x of its capital letter's count and a test y of its small letter's.
 pub decided : (b : List ℕ) (i k : ℕ) (x y : Bool) → Says (0 < countAt b i k) x → Says (0 < countAt b i (k + rightCount)) y → Says (NetAt b i k) (x && not y)
 decided b i k true true capital small = λ h. absurd (omega (arith, h .1))
-decided b i k true false capital small = (capital, le-zero (countAt b i (k + rightCount)) small)
-  where
-    le-zero : (n : ℕ) → (0 < n → ⊥) → n ≡ 0
-    le-zero zero h = refl
-    le-zero (suc n) h = absurd (h (omega arith))
+decided b i k true false capital small = (
+  capital,
+  ⊎-elim (λ l. absurd (small l)) (λ l. omega arith) (lt-or-le 0 (countAt b i (k + rightCount))),
+)
 decided b i k false y capital small = λ h. capital (h .0)
