@@ -8,6 +8,11 @@ use borrow.Author.Tests.{eqb-true, ltb-true}
 use lib.Dec.{eqb, ltb}
 use Rattle.index.specs.Letters.{letterCount, rightCount}
 use Rattle.index.specs.Doors.{Mask, NetAt, OneStatement, formula}
+use Rattle.index.specs.Message.{Half, Changed, ownCount}
+use Rattle.index.specs.Message.Change.{add}
+use Rattle.index.specs.Places.{At}
+use Rattle.index.proofs.HalfLetters.{bit-zero, change-own}
+use Rattle.index.proofs.Records.{count-at}
 use Rattle.index.proofs.Tests.{both, all, all-at}
 
 -- The formula has right k where the mask has its capital letter and not its small one.
@@ -30,4 +35,20 @@ one-statement b i mask small once =
           let capital = once k (omega arith) in
           let letter = once (k + rightCount) (omega arith) in
           ((λ i. (omega arith, omega arith)), (λ n. omega (arith, n .0, n .1))),
+    )
+
+-- Such a record is what one statement leaves: its half was added where there was none.
+pub one-left : {b b′ : List ℕ} (h : Half) (i : ℕ) → Changed (add h) b b′ → ((k : ℕ) → k < letterCount → ownCount b h k ≡ 0)
+    → At b′ (h .kind) (h .key) (h .id) i → OneStatement b′ i (h .mask)
+unfolding ownCount
+one-left h i changed missing at k l =
+    let own = change-own (add h) k in
+    omega (
+      arith,
+      count-at (changed .good) (h .kind) (h .key) (h .id) i k at,
+      changed .counts (h .kind) (h .key) (h .id) k l,
+      missing k l,
+      own .0,
+      own .1,
+      bit-zero k,
     )
