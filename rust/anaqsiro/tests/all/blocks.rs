@@ -33,6 +33,19 @@ fn the_longest_text_is_written() {
     assert_eq!((text.len(), Block::LONGEST_TEXT), (54_185, 54_185));
 }
 
+/// Every mask of one statement: its rights, less those it denies, as the rule is told, and as 000's formula has it.
+#[test]
+fn a_statement_gives_its_rights_less_its_denials() {
+    for mask in 1..=u8::MAX {
+        let letters = Letters::from_mask(mask.into()).expect("below 256");
+        let mut block = with_room(1);
+        block.apply(Message::new(Kind::Permission, None, Some(Half::new(9, 1, letters)))).expect("room");
+        let net = block.rights(1, 9, Rights::ALL).expect("a good block");
+        assert_eq!(net, letters.rights().without(letters.denied()), "{letters}");
+        assert_eq!(net.mask(), ((mask >> 4) ^ 15) & mask, "{letters}");
+    }
+}
+
 #[test]
 fn denials_stay_in_their_record() {
     let mut block = with_room(4);
