@@ -147,6 +147,30 @@ fn zero() -> bool {
     say(b"request 16: ", short(&block, 1, 9, 16))
 }
 
+// Filters on an object and on its groups, one after the other: each binds.
+fn filters() -> bool {
+    let mut block = [0u8; HEADER + 10 * RECORD];
+    index::make(&mut block);
+    give(&mut block, 2, 9, 1, 15);
+    give(&mut block, 1, 9, 3, 1);
+    give(&mut block, 1, 9, 12, 8);
+    say(b"no filter: ", full(&block, 1, 9));
+    give(&mut block, 3, 3, 20, 14);
+    say(b"a filter on a group: ", full(&block, 1, 9));
+    give(&mut block, 3, 3, 21, 7);
+    say(b"a second on that group: ", full(&block, 1, 9));
+    give(&mut block, 3, 12, 20, 11);
+    say(b"one on another group: ", full(&block, 1, 9));
+    give(&mut block, 3, 9, 20, 5);
+    say(b"one on the object: ", full(&block, 1, 9));
+    withdraw(&mut block, 3, 12, 20, 11);
+    say(b"without that on the other group: ", full(&block, 1, 9));
+    withdraw(&mut block, 1, 9, 3, 1);
+    say(b"out of the first group: ", full(&block, 1, 9));
+    give(&mut block, 3, 0, 20, 8);
+    say(b"one on name 0: ", full(&block, 1, 9))
+}
+
 fn main() {
     mill();
     chains(31);
@@ -155,4 +179,5 @@ fn main() {
     chains(40);
     lengths();
     zero();
+    filters();
 }

@@ -1,4 +1,4 @@
--- From the rights reached, the filter and the request to the answers.
+-- From the rights reached, the filters and the request to the answers.
 use Prim.Native.Nat.{ℕ, suc, _^_, _<_, _≤_}
 use mathlib.Core.Path.{_≡_, refl}
 use mathlib.Core.List.{List, [], _∷_}
@@ -15,12 +15,12 @@ use Rattle.rights.specs.Held.{Passes, Holds}
 use Rattle.rights.specs.Marks.{Granted}
 use Rattle.rights.specs.Questions.{questionNeeds, Limited, HoldsAll}
 
--- A right is held where it is reached and passes the filter.
+-- A right is held where it is reached and passes the filters.
 pub holds : (b : List ℕ) (u o k : ℕ) → (Granted b u o k × Passes b o k) ↔ Holds b u o k
 unfolding Granted
 holds b u o k = (
-  (λ p. record { s = p .0 .0; g = p .0 .1; reached = p .0 .2; grant = p .0 .3; filter = p .1 }),
-  (λ h. ((h .s, h .g, h .reached, h .grant), h .filter)),
+  (λ p. record { s = p .0 .0; g = p .0 .1; reached = p .0 .2; grant = p .0 .3; filters = p .1 }),
+  (λ h. ((h .s, h .g, h .reached, h .grant), h .filters)),
 )
 
 -- ---- the requirements
@@ -79,7 +79,7 @@ module _ (b : List ℕ) (u o request : ℕ) where
 
   -- ---- the rights
 
-  -- The rights reached among those that the filter lets through, limited to the request.
+  -- The rights reached among those that the filters let through, limited to the request.
   pub limited : {w r : ℕ} → Mask w (λ k. Passes b o k × In k request)
       → Mask r (λ k. Granted b u o k × In k w) → Limited b u o request r
   unfolding Limited
@@ -90,7 +90,7 @@ module _ (b : List ℕ) (u o request : ℕ) where
         (λ p. let q = holds b u o k .1 (p .0) in (q .0, wanted .1 k h .1 (q .1, p .1))),
       ))
 
-  -- Every requested right passes the filter and is reached.
+  -- Every requested right passes the filters and is reached.
   module _ (small : request < 2 ^ rightCount) where
     pub filtered : {w : ℕ} → Mask w (λ k. Passes b o k × In k request) → HoldsAll b u o request → w ≡ request
     unfolding HoldsAll

@@ -1,6 +1,6 @@
 -- A record by its kind, key and id, and by its number.
 use Prim.Native.Nat.{ℕ, _+_, _^_, _<_, _≤_}
-use mathlib.Core.Path.{_≡_, refl, sym, _∙_}
+use mathlib.Core.Path.{refl, sym, _∙_}
 use mathlib.Core.List.{List}
 use mathlib.Core.Logic.{_↔_, ⊎-elim}
 use native.Mathlib.Omega.{arith}
@@ -29,10 +29,6 @@ module _ {b : List ℕ} (g : Good b) (kind : Kind) where
 
   pub keys-rise : (i j : ℕ) → i ≤ j → Of b kind i → Of b kind j → key b i ≤ key b j
   keys-rise i j l of of′ = omega (arith, no-lower b g kind i j l of of′, id-name of′)
-
-  -- Of one key, ids rise.
-  pub ids-rise : (i j : ℕ) → i ≤ j → Of b kind i → Of b kind j → key b i ≡ key b j → id b i ≤ id b j
-  ids-rise i j l of of′ same = omega (arith, no-lower b g kind i j l of of′)
 
   module _ {x y : ℕ} where
     counted : (k : ℕ) → 0 < count b kind x y k → (i : ℕ) × At b kind x y i

@@ -5,6 +5,7 @@ mod Rounding
 pub mod MarksAreChains
 mod Looking
 mod Filters
+mod Sifting
 mod Granting
 mod Sides
 mod Asking

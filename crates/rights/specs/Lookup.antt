@@ -6,9 +6,6 @@ use mathlib.Core.Logic.{_↔_}
 use Rattle.index.specs.declared.Kind.{Kind}
 use Rattle.index.specs.declared.Kind.the-variants.{Permission, Filter}
 use Rattle.index.specs.Block.{nameCount, Of, key, from, size}
-use Rattle.index.specs.Doors.{Mask}
-use Rattle.rights.specs.declared.filter.Bound.{Bound}
-use Rattle.rights.specs.declared.filter.Bound.the-variants.{To, Free}
 use Rattle.rights.specs.declared.lookup.Span.{Span}
 use Rattle.rights.specs.Held.{Is, Net}
 
@@ -28,15 +25,10 @@ pub record KeysWithin (b : List ℕ) (span : Span) : Type 0 where
   pub names : span .end ≤ nameCount
   pub within : (i : ℕ) → Of b Permission i → (span .from ≤ key b i) × (key b i < span .end)
 
--- The F record of the name x with the lowest id has the id y.
-abbrev pub FirstOf : List ℕ → ℕ → ℕ → Type 0
-FirstOf b x y = Is b Filter x y × ((y′ : ℕ) → Is b Filter x y′ → y ≤ y′)
+-- P holds of each record of the kind with the key x.
+abbrev pub EachOf : List ℕ → Kind → ℕ → (ℕ → Type 0) → Type 0
+EachOf b kind x P = (i : ℕ) → Of b kind i → key b i ≡ x → P i
 
--- The name x has no F record.
-abbrev pub NoneOf : List ℕ → ℕ → Type 0
-NoneOf b x = (y : ℕ) → Is b Filter x y → ⊥
-
--- What the first F record of the name x lets through, or that there is none.
-abbrev pub Bounds : List ℕ → ℕ → Bound → Type 0
-Bounds b x (To r) = (y : ℕ) × FirstOf b x y × Mask r (Net b Filter x y)
-Bounds b x Free = NoneOf b x
+-- Right k is in the net mask of every F record of the name x.
+abbrev pub Lets : List ℕ → ℕ → ℕ → Type 0
+Lets b x k = (y : ℕ) → Is b Filter x y → Net b Filter x y k

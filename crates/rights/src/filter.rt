@@ -1,44 +1,43 @@
-// The filter of an object.
+// The filters of an object: each of them binds.
 
 use crate::lookup::records_of;
 use index::ALL;
 use index::Kind;
+ghost use Prim.Native.Nat.{_<_, _^_};
+ghost use Rattle.index.specs.Letters.{rightCount, In};
 ghost use Rattle.index.specs.Block.{Good, IsName};
 ghost use Rattle.index.specs.Doors.{Mask};
 ghost use Rattle.rights.specs.Held.{Passes};
-ghost use Rattle.rights.specs.Lookup.{Bounds};
+ghost use Rattle.rights.specs.Lookup.{Lets};
 
-// What the F records of a name let through: those rights, or all, if there is none.
-pub enum Bound {
-    To(u8),
-    Free,
-}
-
-// What the F record of a name with the lowest id, which is the first, lets through.
-fn bound_at(block: &[u8], name: u16) -> Bound
-    requires { ⌜ Good (now block) × IsName name ⌝ }
-    ensures { λ r. ⌜ Bounds (now (block .entry)) name r ⌝ }
+// The rights of the mask that are in the net mask of every F record of a name.
+fn narrowed(block: &[u8], name: u16, mask: u8) -> u8
+    requires { ⌜ Good (now block) × (IsName name × (mask < 2 ^ rightCount)) ⌝ }
+    ensures { λ r. ⌜ Mask r (λ k. Lets (now (block .entry)) name k × In k mask) ⌝ }
 {
-    let at = records_of(block, Kind::Filter, name);
-    if at.from < at.end {
-        return Bound::To(index::net_of(block, at.from));
+    let records = records_of(block, Kind::Filter, name);
+    let mut i = records.from;
+    let mut left = mask;
+    while i < records.end {
+        left = index::net_of(block, i) & left;
+        i += 1;
     }
-    Bound::Free
+    left
 }
 
-// The rights that the filter of an object lets through: all, if there is none.
+// The rights that are in the net mask of every F record of the object and of each group that its M records name: all, if there is
+// no F record. Once none is left, no more groups are looked at.
 pub(crate) fn filter_of(block: &[u8], object: u16) -> u8
     requires { ⌜ Good (now block) × IsName object ⌝ }
     ensures { λ r. ⌜ Mask r (Passes (now (block .entry)) object) ⌝ }
 {
-    if let Bound::To(mask) = bound_at(block, object) {
-        return mask;
-    }
+    let mut left = narrowed(block, object, ALL);
     let groups = records_of(block, Kind::Membership, object);
     for i in groups.from..groups.end {
-        if let Bound::To(mask) = bound_at(block, index::id_of(block, i)) {
-            return mask;
+        if left == 0 {
+            break;
         }
+        left = narrowed(block, index::id_of(block, i), left);
     }
-    ALL
+    left
 }

@@ -29,7 +29,7 @@ texts-right =
 
 chains-right : Each Shows chains
 unfolding number countAt lettersOf
-chains-right = all-mean chains (refl and refl and refl and refl and tt)
+chains-right = all-mean chains (refl and refl and refl and refl and refl and tt)
 
 pub appointments-right : Each Shows appointments
 unfolding number countAt countFrom count room lettersOf kindOf kindNumber flags halfAt previous new changes moves taken added ownCount

@@ -1,4 +1,4 @@
--- 01, "Examples to hold it to": the starred ones, as one table. A case says what it says by the promises of the calls.
+-- 01, "Examples to hold it to": the starred ones, as one table, and one of M-102. A case says what it says by the promises of the calls.
 use Prim.Native.Nat.{ℕ, _≤_}
 use mathlib.Core.Path.{_≡_}
 use mathlib.Core.List.{List, [], _∷_, _++_}
@@ -85,8 +85,13 @@ chains =
     ∷ Case.rights (block (once 1 2 2 ∷ once 2 3 4 ∷ []) (once 9 3 15 ∷ []) [] 0) 1 9 0
     -- "1→1 alone, P key 0 id 1 R: user 1 holds 2 on every object."
     ∷ Case.everywhere (block (once 1 1 2 ∷ []) (once 0 1 2 ∷ []) [] 0) 1 2
-    -- "P key 9 id 1 MRUP, F key 9 id 20 RU, F key 9 id 21 R: user 1 holds 6 on 9."
-    ∷ Case.rights (block [] (once 9 1 15 ∷ []) (once 9 20 6 ∷ once 9 21 2 ∷ []) 0) 1 9 6 ∷ []
+    -- "P key 9 id 1 MRUP, F key 9 id 20 RU, F key 9 id 21 R": M-102: "The example with two filters then gives 2 in place of 6."
+    ∷ Case.rights (block [] (once 9 1 15 ∷ []) (once 9 20 6 ∷ once 9 21 2 ∷ []) 0) 1 9 2
+    -- M-102: "every F record keyed by the object or by any group its M records name". Of the groups 3 (RUP) and 12 (MRP) and the
+    -- object 9 itself (MRU) each takes away a right that the other two let through. 9 is in 3 for M, in 12 for P.
+    ∷ Case.rights
+    (block (once 9 3 1 ∷ once 9 12 8 ∷ []) (once 9 1 15 ∷ []) (once 3 20 14 ∷ once 9 20 7 ∷ once 12 20 11 ∷ []) 0)
+    1 9 2 ∷ []
 
 abbrev pub appointments : List Case
 appointments =
@@ -108,6 +113,6 @@ limits =
     ∷ Case.accepted (reads 1) (moving 2 (halfBytes 9 1 2) (halfBytes 10 1 2)) (block [] (once 10 1 2 ∷ []) [] 0)
     ∷ Case.refused (reads 1) (giving 2 10 1 2) 8 ∷ []
 
--- All of them, in 01's order.
+-- All of them, in 01's order, with what M-102 adds.
 abbrev pub cases : List Case
 cases = masks ++ (texts ++ (chains ++ (appointments ++ limits)))

@@ -17,7 +17,7 @@ pub enum Kind {
     Membership = 1,
     /// The id is granted or denied rights on the key.
     Permission = 2,
-    /// The filter named id bounds the key.
+    /// The filter named id bounds the key, and the members of the key where that is a group. Every filter binds.
     Filter = 3,
 }
 

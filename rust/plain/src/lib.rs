@@ -250,14 +250,12 @@ fn side(links: &[(u16, u16, u8)], start: usize) -> [u8; NAMES] {
 
 fn filter(b: &[u8], object: usize) -> u8 {
     let at = bounds(b);
-    let of = |name: usize| {
-        let i = lower(b, at[2], at[3], name << NAME_BITS);
-        (i < at[3] && word(b, place(i)) == name).then(|| net(b, i))
+    let keyed = |lo: usize, hi: usize, name: usize| {
+        (lower(b, lo, hi, name << NAME_BITS)..hi).take_while(move |&i| word(b, place(i)) == name)
     };
-    let first = lower(b, 0, at[1], object << NAME_BITS);
-    of(object)
-        .or_else(|| (first..at[1]).take_while(|&i| word(b, place(i)) == object).find_map(|i| of(word(b, place(i) + 2))))
-        .unwrap_or(ALL)
+    let groups = keyed(0, at[1], object).map(|i| word(b, place(i) + 2));
+    let filters = std::iter::once(object).chain(groups).flat_map(|name| keyed(at[2], at[3], name));
+    filters.fold(ALL, |mask, i| mask & net(b, i))
 }
 
 fn question(b: &[u8], user: u64, object: u64, request: u64) -> Result<u8, u32> {

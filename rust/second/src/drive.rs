@@ -2,7 +2,7 @@
 //! guard bytes around each buffer. A run keeps count of what it met, and says what it should have met and did not.
 
 use crate::gen::{self, Rng};
-use crate::{denied, granted, letters, meets, passes, word, Index, ALL, CHAIN, COUNTS, HEADER, KINDS, LAST, LETTERS, M, NAMES, RECORD};
+use crate::{binding, carries, denied, granted, letters, meets, word, Index, ALL, CHAIN, COUNTS, HEADER, KINDS, LAST, LETTERS, M, NAMES, RECORD};
 use std::collections::{BTreeMap, BTreeSet};
 use std::ops::Range;
 
@@ -68,7 +68,10 @@ const TO_MEET: &[(&str, &str, &[i64])] = &[
     ("rights", "number", &[0, 1, 2, 4, 5]),
     ("rights", "held", &[1, 2, 4, 8]),
     ("rights", "not held", &[1, 2, 4, 8]),
-    ("rights", "granted, and not in the filter", &[1, 2, 4, 8]),
+    ("rights", "granted, and not in every filter", &[1, 2, 4, 8]),
+    ("rights", "granted, and in the first filter, but not in every one", &[1, 2, 4, 8]),
+    ("rights", "granted, and stopped by one filter alone, of a group or of the object", &[0, 1]),
+    ("rights", "held, with filters, three or more taken as three", &[0, 1, 2, 3]),
     ("rights", "not granted for a denial alone", &[1, 2, 4, 8]),
     ("rights", "granted only by a chain as long as", &[CHAIN as i64]),
     ("rights", "not granted but by a chain as long as", &[CHAIN as i64 + 1]),
@@ -227,9 +230,21 @@ impl Call<'_> {
     fn saw_right(&mut self, index: &Index, user: u16, object: u16, right: usize, held: bool) {
         self.saw(if held { "held" } else { "not held" }, 1 << right);
         let by = |limit| granted(index, user, object, right, limit);
-        let (filtered, long) = (!passes(index, object, right), index.parts[M].len() >= CHAIN);
+        let filters: Vec<_> = binding(index, object).collect();
+        let stops: Vec<_> = filters.iter().filter(|(_, counts)| !carries(counts, right)).collect();
+        let (filtered, long) = (!stops.is_empty(), index.parts[M].len() >= CHAIN);
+        if held {
+            self.saw("held, with filters, three or more taken as three", filters.len().min(3) as i64);
+        }
         if filtered && by(CHAIN) {
-            self.saw("granted, and not in the filter", 1 << right);
+            self.saw("granted, and not in every filter", 1 << right);
+            let first = filters.iter().min_by_key(|&&(key, _)| key != object).expect("a filter");
+            if carries(first.1, right) {
+                self.saw("granted, and in the first filter, but not in every one", 1 << right);
+            }
+            if let [&(key, _)] = stops[..] {
+                self.saw("granted, and stopped by one filter alone, of a group or of the object", (key == object).into());
+            }
         }
         if !held && !filtered && meets(index, user, object, right, CHAIN, denied) {
             self.saw("not granted for a denial alone", 1 << right);

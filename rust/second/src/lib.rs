@@ -259,17 +259,15 @@ fn reached(memberships: &Part, start: u16, right: usize, limit: usize) -> BTreeS
     names
 }
 
-/// The filter of an object, if there is one.
-fn filter(index: &Index, object: u16) -> Option<&Counts> {
-    let groups = index.parts[M].range((object, 0)..=(object, u16::MAX)).map(|(&(_, id), _)| id);
-    std::iter::once(object)
-        .chain(groups)
-        .find_map(|name| index.parts[F].range((name, 0)..=(name, u16::MAX)).next().map(|(_, c)| c))
+/// The F records that bind an object: those whose key is the object, or is named by an M record of the object.
+fn binding(index: &Index, object: u16) -> impl Iterator<Item = (u16, &Counts)> {
+    let binds = move |name: u16| name == object || index.parts[M].contains_key(&(object, name));
+    index.parts[F].iter().map(|(&(key, _), counts)| (key, counts)).filter(move |&(key, _)| binds(key))
 }
 
-/// Whether the object's filter, if there is one, has the right.
+/// Whether each of them has the right.
 fn passes(index: &Index, object: u16, right: usize) -> bool {
-    filter(index, object).is_none_or(|counts| carries(counts, right))
+    binding(index, object).all(|(_, counts)| carries(counts, right))
 }
 
 /// Whether a P record with such counts is reached for the right from both sides, over chains of at most `limit` records.

@@ -89,8 +89,23 @@ fn long_chains() {
 #[test]
 fn filters() {
     let b = block(3, &[(P, 9, 1, 15), (F, 9, 20, 6), (F, 9, 21, 2)]);
-    assert_eq!(rights(&b, 1, 9, ALL), (0, 6));
-    assert_eq!((may(&b, 1, 9, 6), may(&b, 1, 9, 7)), ((0, 1), (0, 0)));
+    assert_eq!(rights(&b, 1, 9, ALL), (0, 2));
+    assert_eq!((may(&b, 1, 9, 2), may(&b, 1, 9, 6)), ((0, 1), (0, 0)));
+}
+
+/// Those of the object and of its groups bind, whatever the memberships carry; those of the groups' groups, of the user and of
+/// name 0 do not.
+#[test]
+fn filters_of_groups() {
+    let grant = (P, 9, 1, 15);
+    let groups = [(M, 9, 3, 1), (M, 9, 12, 8), (F, 3, 20, 14), (F, 9, 20, 7), (F, 12, 20, 11)];
+    assert_eq!(rights(&block(6, &[&groups[..], &[grant]].concat()), 1, 9, ALL), (0, 2));
+    let others = [(M, 9, 3, 15), (M, 3, 4, 15), (M, 1, 5, 15), (F, 4, 20, 1), (F, 1, 20, 1), (F, 5, 20, 1), (F, 0, 20, 1)];
+    assert_eq!(rights(&block(8, &[&others[..], &[grant]].concat()), 1, 9, ALL), (0, 15));
+    let zero = [(M, 9, 0, 8), (F, 0, 20, 1), (F, 0, 21, 3)];
+    assert_eq!(rights(&block(4, &[&zero[..], &[grant]].concat()), 1, 9, ALL), (0, 1));
+    let apart = [(F, 9, 20, 1), (F, 9, 21, 2)];
+    assert_eq!(rights(&block(3, &[&apart[..], &[grant]].concat()), 1, 9, ALL), (0, 0));
 }
 
 #[test]

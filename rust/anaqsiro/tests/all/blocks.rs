@@ -58,6 +58,24 @@ fn denials_stay_in_their_record() {
     assert_eq!(block.rights(2, 9, Rights::NONE), Err(Refusal::Mask));
 }
 
+/// Every three masks of filters, two on the object and one on its group, a mask of 0 for no filter: each binds.
+#[test]
+fn every_filter_binds() {
+    for masks in 0..1 << 12 {
+        let filters = [(9, 20, masks & 15), (9, 21, masks >> 4 & 15), (3, 20, masks >> 8)];
+        let mut block = with_room(5);
+        block.read_set(Kind::Permission, 9, "1;MRUP").expect("room");
+        block.read_set(Kind::Membership, 9, "3;M").expect("room");
+        let mut left = Rights::ALL.mask();
+        for (key, id, mask) in filters.into_iter().filter(|filter| filter.2 != 0) {
+            let letters = Letters::from_mask(mask).expect("below 256");
+            block.apply(Message::new(Kind::Filter, None, Some(Half::new(key, id, letters)))).expect("room");
+            left &= letters.mask();
+        }
+        assert_eq!(block.rights(1, 9, Rights::ALL).map(|rights| rights.mask()), Ok(left), "{filters:?}");
+    }
+}
+
 #[test]
 fn room_that_can_not_be_is_refused() {
     assert_eq!((Block::LONGEST, Block::GREATEST_ROOM, Message::BYTES), (40_976, 2_048, 12));

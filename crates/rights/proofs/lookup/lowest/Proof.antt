@@ -2,7 +2,7 @@
 use Prim.Native.Nat.{_+_, _-_, _/_, _^_, _<_, _≤_}
 use native.Mathlib.Omega.{arith}
 use borrow.Author.Needs.{needs}
-use Rattle.index.specs.Block.{from, size, records}
+use Rattle.index.specs.Block.{from, size}
 use Rattle.index.proofs.Records.{gap-in}
 use Rattle.rights.proofs.ByNumber.{few}
 use Rattle.rights.proofs.Looking.{Narrowed, narrowed-none, halve, met}
