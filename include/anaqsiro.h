@@ -31,9 +31,9 @@ extern "C" {
 /* The version of this header and its archive. The block's format is part of it: as long as the first two numbers are the same,
  * a block, a message or a text of one version is good for the other and means the same there, and every call is made and
  * answers as before. Where any of this changes, the second number rises; where something is only added, the third. */
-#define ANAQSIRO_VERSION "0.1.0"
+#define ANAQSIRO_VERSION "0.2.0"
 #define ANAQSIRO_VERSION_MAJOR 0
-#define ANAQSIRO_VERSION_MINOR 1
+#define ANAQSIRO_VERSION_MINOR 2
 #define ANAQSIRO_VERSION_PATCH 0
 
 /* ---- numbers of the rules */
@@ -74,7 +74,7 @@ extern "C" {
 enum anaqsiro_kind {
     ANAQSIRO_MEMBERSHIP = 1, /* the key is a member of the group id */
     ANAQSIRO_PERMISSION = 2, /* id is granted or denied rights on key */
-    ANAQSIRO_FILTER = 3      /* the filter named id bounds key */
+    ANAQSIRO_FILTER = 3      /* the filter named id bounds key and the members of key; every filter binds */
 };
 
 /* The letters of a mask: four rights, and the denial of each, which permissions alone may have. */
