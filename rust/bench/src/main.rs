@@ -29,6 +29,7 @@ const GROUPS: Range<u16> = 800..1000;
 
 const MEMBERSHIP: u8 = 1;
 const PERMISSION: u8 = 2;
+const FILTER: u8 = 3;
 const READ: u8 = 2;
 
 /// How many memberships, grants and filters a block has, and how many more it has room for.
@@ -230,6 +231,27 @@ fn measure(programs: &Programs, name: &str, size: &Size) {
     in_and_out("reading a set of two records, and taking it out", &mut runners, 0, b"3;MR;12;MRU2");
 }
 
+/// Questions about one object on which all the filters of the mill stand: four on it, and four on each of nine groups of it. Each
+/// filter has all rights, so that every one has to be looked at.
+fn bound(programs: &Programs) {
+    let Size(memberships, grants, filters, spare) = MILL;
+    let (object, groups) = (OBJECTS.start, OBJECTS.start + 1..=OBJECTS.start + 9);
+    programs.title("The mill, with its 40 filters on one object and nine groups of it");
+    let mut runners = programs.with(|library| {
+        let mut b = block(library, &Size(memberships - 9, grants, 0, filters + spare + 9));
+        let mut give = |kind, key, id| assert_eq!(library.message(&mut b, &message(NEW, kind, key, id, ALL)), 0);
+        groups.clone().for_each(|group| give(MEMBERSHIP, object, group));
+        (object..).take(filters / 4).for_each(|key| (0..4).for_each(|id| give(FILTER, key, id)));
+        b
+    });
+    row("the full question", &mut runners, |run, n| {
+        black_box(run.library.rights(&run.block, asked(n).0, object.into(), ALL.into()));
+    });
+    row("the short question", &mut runners, |run, n| {
+        black_box(run.library.may(&run.block, asked(n).0, object.into(), READ.into()));
+    });
+}
+
 /// Reading a set of 1,000 records into a block with as many records behind it.
 fn large_set(programs: &Programs) {
     let text = (0..1000).map(|id| format!("{id};MRU2")).collect::<Vec<_>>().join(";").into_bytes();
@@ -297,6 +319,7 @@ fn main() -> Result<(), String> {
     measure(&programs, "Small: 10 memberships, 5 grants", &SMALL);
     measure(&programs, "The mill: 1,258 memberships, 200 grants, 40 filters", &MILL);
     measure(&programs, "Full: 1,500 memberships, 500 grants, 45 filters, room for 3 more", &FULL);
+    bound(&programs);
     large_set(&programs);
     growth(&programs);
     Ok(())
