@@ -1,5 +1,5 @@
-/* Tests what the header gives beside the calls of the rules, as C99 and as C++11: the helpers, the longest text, and the calls
- * that go through a block record by record. */
+/* Tests what the header gives beside the calls of the rules, as C99 and as C++11: the helpers, the longest text, the places of
+ * wrong texts, and the calls that go through a block record by record. */
 #include "anaqsiro.h"
 
 #include <stdio.h>
@@ -128,6 +128,38 @@ static void test_longest_text(void) {
          ANAQSIRO_TEXT_LONG);
 }
 
+/* A text that is of no set, and its place among memberships and among permissions. */
+struct wrong {
+    const char *text;
+    uint64_t membership, permission;
+};
+
+static const struct wrong wrong[] = {
+    {";", 0, 0},       {"03;M", 1, 1},    {"3;", 2, 2},      {"1024;M", 3, 3},   {"3;RM", 3, 3}, {"3;M0", 3, 3},
+    {"3;M1", 4, 4},    {"3;M;", 4, 4},    {"1;M;1;M", 5, 5}, {"399;M;3", 6, 6},  {"3;mM", 2, 3}, {"3;M;4;Mp1", 7, 9},
+    {"1023;M;", 6, 6}, {"3;M65536", 7, 7},
+};
+
+/* What a text that is refused with 9 comes back with: that number and the place, whatever the room. The block is as it was. */
+static void test_places(void) {
+    const uint64_t refused = (uint64_t)ANAQSIRO_TEXT << 32;
+    const size_t no_room = ANAQSIRO_BLOCK_MIN;
+    uint8_t block[ANAQSIRO_BLOCK_MIN + ANAQSIRO_RECORD], before[sizeof block];
+    anaqsiro_make(block, sizeof block);
+    memcpy(before, block, sizeof block);
+    for (const struct wrong *one = wrong; one < wrong + sizeof wrong / sizeof *wrong; one++) {
+        const uint8_t *text = (const uint8_t *)one->text;
+        const size_t length = strlen(one->text);
+        same(one->text, anaqsiro_read(block, sizeof block, ANAQSIRO_MEMBERSHIP, KEY, text, length), refused + one->membership);
+        same(one->text, anaqsiro_read(block, no_room, ANAQSIRO_PERMISSION, KEY, text, length), refused + one->permission);
+    }
+    same("the number beside a place", anaqsiro_number(refused + 3), ANAQSIRO_TEXT);
+    same("the place", anaqsiro_value(refused + 3), 3);
+    same("no room", anaqsiro_read(block, no_room, ANAQSIRO_PERMISSION, KEY, (const uint8_t *)"3;M", 3),
+         (uint64_t)ANAQSIRO_NO_ROOM << 32);
+    same("the block as it was", memcmp(block, before, sizeof block) == 0, 1);
+}
+
 /* The calls that go through a block, on a good block of three records, on numbers past it, and on one that is not good. */
 static void test_records(void) {
     uint8_t block[ANAQSIRO_BLOCK_MIN + ROOM * ANAQSIRO_RECORD];
@@ -173,6 +205,7 @@ int main(void) {
     test_bytes();
     test_wide_numbers();
     test_longest_text();
+    test_places();
     test_records();
     printf("include/anaqsiro.h as " LANGUAGE ": %u tests, %u failed\n", tests, failures);
     return failures > 0;

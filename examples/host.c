@@ -1,17 +1,20 @@
-/* The mill's story, told by a host program: two appointments give a right, one ends, and the right stands. */
+/* The mill's story, told by a host program: two appointments give a right, one ends, and the right stands. Then the desk reads
+ * in texts that are wrong, and is shown where. */
 #include "anaqsiro.h"
 
 #include <stdio.h>
+#include <string.h>
 
 enum { ROOM = 8, PLANNER = 1, REQUESTS = 9, COPY = 10 };
 
 static uint8_t block[ANAQSIRO_BLOCK_MIN + ROOM * ANAQSIRO_RECORD];
 
-/* Says what was refused, and gives the value of an accepted call. */
+/* Says what was refused, and gives the value of an accepted call; 0 of a refused one. */
 static uint32_t told(const char *what, uint64_t answer) {
     const uint32_t number = anaqsiro_number(answer);
     if (number != ANAQSIRO_ACCEPTED) {
         printf("%s: refused with %u, %s\n", what, number, anaqsiro_refusal_text(number));
+        return 0;
     }
     return anaqsiro_value(answer);
 }
@@ -53,6 +56,23 @@ static void print_records(void) {
     }
 }
 
+/* Prints a text, and a caret under the byte at the place: the first wrong one, or the end of a text that ends too early. */
+static void print_place(const char *text, uint32_t place) {
+    printf("  %s\n  %*s^\n", text, (int)place, "");
+}
+
+/* Reads in a set as the desk has written it, and shows where it is wrong. */
+static void read_in(const char *what, const char *text) {
+    const uint64_t answer =
+        anaqsiro_read(block, sizeof block, ANAQSIRO_PERMISSION, COPY, (const uint8_t *)text, strlen(text));
+    const uint32_t records = told(what, answer);
+    if (anaqsiro_number(answer) == ANAQSIRO_ACCEPTED) {
+        printf("%s: %u records\n", what, records);
+    } else if (anaqsiro_number(answer) == ANAQSIRO_TEXT) {
+        print_place(text, anaqsiro_value(answer));
+    }
+}
+
 int main(void) {
     const struct anaqsiro_half may_release = {REQUESTS, PLANNER, ANAQSIRO_UPDATE};
 
@@ -78,5 +98,10 @@ int main(void) {
     apply("a third would end", &may_release, NULL);
     ask();
     told("a name past 16 bits", anaqsiro_rights(block, sizeof block, (1u << 16) + PLANNER, REQUESTS, ANAQSIRO_ALL));
+
+    read_in("letters in another order", "1;U;4;UR2;12;R;30;M");
+    read_in("an id that was there before", "1;U;4;RU2;12;R;4;M");
+    read_in("a count of 1", "1;U;4;RU2;12;R;30;M1");
+    read_in("as it should be", "1;U;4;RU2;12;R;30;M");
     return 0;
 }

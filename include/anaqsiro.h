@@ -3,12 +3,13 @@
  *
  * Every call answers for any bytes of any length and any numbers. It returns one 64-bit number, the refusal's number times
  * 2^32 plus a value; anaqsiro_number and anaqsiro_value take it apart. The number is 0 where the call was accepted. A refused
- * call has the value 0 and leaves every lent byte as it was.
+ * call leaves every lent byte as it was. Its value is 0, but for one: a text that anaqsiro_read refuses with 9 comes back with
+ * its place.
  *
  * - anaqsiro_read CHANGES THE BLOCK, anaqsiro_write DOES NOT. The first reads a text into the block: the records that it had
  *   of that kind and key are gone. The second writes a text out of the block.
  * - A REFUSAL IS NOT ZERO: if (anaqsiro_may(..)) would take it for a yes. Test anaqsiro_value of the answer, which is 0 for
- *   every refusal.
+ *   every refusal of a question. Test anaqsiro_number of what anaqsiro_read gives, whose value may be a place.
  * - DENIALS DO NOT REACH ACROSS RECORDS. "No read" takes read out of the one permission record that it stands in; another one
  *   may still give it, to a group of the same user or on a group of the same object.
  *
@@ -31,9 +32,9 @@ extern "C" {
 /* The version of this header and its archive. The block's format is part of it: as long as the first two numbers are the same,
  * a block, a message or a text of one version is good for the other and means the same there, and every call is made and
  * answers as before. Where any of this changes, the second number rises; where something is only added, the third. */
-#define ANAQSIRO_VERSION "0.2.0"
+#define ANAQSIRO_VERSION "0.3.0"
 #define ANAQSIRO_VERSION_MAJOR 0
-#define ANAQSIRO_VERSION_MINOR 2
+#define ANAQSIRO_VERSION_MINOR 3
 #define ANAQSIRO_VERSION_PATCH 0
 
 /* ---- numbers of the rules */
@@ -127,7 +128,10 @@ uint64_t anaqsiro_may(const uint8_t *block, size_t len, uint64_t user, uint64_t 
  * Value: the length of the text. */
 uint64_t anaqsiro_write(const uint8_t *block, size_t len, uint64_t kind, uint64_t key, uint8_t *out, size_t out_len);
 
-/* Replaces the records of one kind and key by those of a text. Numbers 0, 1, 2, 3, 4, 9, 8. Value: how many records. */
+/* Replaces the records of one kind and key by those of a text. Numbers 0, 1, 2, 3, 4, 9, 8. Value: how many records; with 9 the
+ * place: the length of the text's longest beginning that is also a beginning of some acceptable text of that kind, whatever the
+ * room. So text[place] is the first wrong byte, or the text ends too early where the place is text_len. It is 3 for 3;M0, and 4
+ * for 3;M1, since 3;M10 would do. */
 uint64_t anaqsiro_read(uint8_t *block, size_t len, uint64_t kind, uint64_t key, const uint8_t *text, size_t text_len);
 
 /* ---- a block as it stands, record by record
@@ -156,7 +160,7 @@ uint64_t anaqsiro_count(const uint8_t *block, size_t len, uint64_t number, uint6
 /* The number of an answer: 0 where the call was accepted. */
 static inline uint32_t anaqsiro_number(uint64_t answer) { return (uint32_t)(answer >> 32); }
 
-/* The value of an answer: 0 where the call was refused. */
+/* The value of an answer. Where the call was refused it is 0, but for the place that anaqsiro_read gives with 9. */
 static inline uint32_t anaqsiro_value(uint64_t answer) { return (uint32_t)(answer & 0xFFFFFFFFu); }
 
 /* The key of an answer of anaqsiro_record. */

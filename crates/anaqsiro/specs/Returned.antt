@@ -1,4 +1,5 @@
--- What the C interface returns: the refusal's number times 2^32, plus a value, which is 0 on refusal.
+-- What the C interface returns: the refusal's number times 2^32, plus a value. On refusal the value is 0, but for 9 of a read:
+-- M-101: "9 returns this place where it returned 0."
 use Prim.Native.Nat.{ℕ, _+_, _*_, _<_}
 use mathlib.Core.Path.{_≡_}
 use mathlib.Core.Bool.{cond}

@@ -1,4 +1,5 @@
-// The C interface: each call returns the refusal's number times 2^32, plus a value, which is 0 on refusal.
+// The C interface: each call returns the refusal's number times 2^32, plus a value. On refusal the value is 0, but for 9,
+// which comes with the place of the text.
 use index::LETTER_COUNT;
 use index::Took;
 use index::Wrote;
@@ -66,13 +67,14 @@ pub extern "C" fn anaqsiro_write(block: &[u8], kind: u64, key: u64, out: &mut [u
     }
 }
 
-// A set is read from text; the value is how many records it has.
+// A set is read from text; the value is how many records it has, and with 9 the place of the text.
 #[no_mangle]
 pub extern "C" fn anaqsiro_read(block: &mut [u8], kind: u64, key: u64, text: &[u8]) -> u64
     ensures { λ r. ⌜ ReadReturns (now (block .entry)) kind key (now (text .entry)) r (now (block .exit)) ⌝ }
 {
     match index::read_set(block, kind, key, text) {
         Took::Set(records) => packed(0, records as u64),
+        Took::Wrong(place) => packed(9, place as u64),
         Took::Refused(number) => packed(number, 0),
     }
 }

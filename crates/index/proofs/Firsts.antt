@@ -2,15 +2,18 @@
 use Prim.Native.Nat.{ℕ, _<_, _≤_}
 use mathlib.Core.Path.{_≡_, refl, ap, sym, _∙_}
 use mathlib.Core.List.{List, [], _∷_, _++_}
-use mathlib.Core.Logic.{_⊎_}
 use mathlib.Core.Logic._⊎_.{inl, inr}
 use native.Mathlib.Omega.{arith}
 use Rattle.index.specs.Numbers.{First, Answers}
 
+-- Q holds of every number in the list.
+abbrev pub Numbered : (ℕ → Type 0) → List (ℕ × Type 0) → Type 0
+Numbered Q [] = Unit {0}
+Numbered Q (t ∷ ts) = Q (t .0) × Numbered Q ts
+
 -- Every number in the list is a refusal's.
 abbrev pub Positive : List (ℕ × Type 0) → Type 0
-Positive [] = Unit {0}
-Positive (t ∷ ts) = (0 < t .0) × Positive ts
+Positive ts = Numbered (λ n. 0 < n) ts
 
 -- All of them hold.
 abbrev pub All : List (ℕ × Type 0) → Type 0
@@ -72,14 +75,6 @@ module _ {O : Type 0} (refused : ℕ → O) (ts us : List (ℕ × Type 0)) (acce
       go : (ts : List (ℕ × Type 0)) → All ts → First refused (ts ++ us) accepted o
       go [] h = f
       go (t ∷ ts) h = inr (h .0, go ts (h .1))
-
-  pub first-past : (o : O) → All ts → First refused (ts ++ us) accepted o → First refused us accepted o
-  first-past o h f = go ts h f
-    where
-      go : (ts : List (ℕ × Type 0)) → All ts → First refused (ts ++ us) accepted o → First refused us accepted o
-      go [] h f = f
-      go (t ∷ ts) h (inl p) = absurd (p .0 (h .0))
-      go (t ∷ ts) h (inr p) = go ts (h .1) (p .1)
 
 -- ---- the number by itself
 

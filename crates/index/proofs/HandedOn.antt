@@ -1,22 +1,20 @@
 -- What a reader answers: what was looked for, or a wrong piece, which is handed on.
-use Prim.Native.Nat.{ℕ, _-_}
+use Prim.Native.Nat.{ℕ}
 use mathlib.Core.Path.{_≡_, refl, ap, subst}
 use mathlib.Core.List.{List, [], _∷_}
 use mathlib.Core.Logic.{⊎-elim}
 use native.Mathlib.Omega.{arith}
-use lib.ListN.{length, drop}
+use lib.ListN.{drop}
 use types.Run.{OneOf}
 use denote.Enum.Declared.{tagOf}
 use Rattle.index.specs.declared.reading.Cursor.{Cursor}
 use Rattle.index.specs.declared.reading.Piece.{Piece}
 use Rattle.index.specs.declared.reading.Piece.the-variants.{Number, Mark, Letters, Wrong}
-use Rattle.index.specs.declared.scanning.Scan.{Scan}
-use Rattle.index.specs.declared.scanning.Scan.the-variants.{Wrong as NoSet}
 use Rattle.index.specs.Text.{Entry}
 use Rattle.index.proofs.reading.Piece.{the-type}
 use Rattle.index.specs.Reading.{Parsed, andThen}
 use Rattle.index.specs.Reading.Parsed.{got, wrong}
-use Rattle.index.specs.Pieces.{SeesNumber, SeesMark, SeesLetters, SeesEntry, Placed}
+use Rattle.index.specs.Pieces.{SeesNumber, SeesMark, SeesLetters, SeesEntry}
 
 -- ---- what was looked for
 
@@ -33,12 +31,6 @@ module _ (text : List ℕ) {p : Piece} {c : Cursor} where
   pub is-entry : {cs : List ℕ} {x : Parsed Entry} {n : ℕ} → p ≡ Number n c → SeesEntry text p cs x
       → x ≡ got (record { id = n; counts = cs }) (drop (c .at) text)
   is-entry {cs} {x} e s = subst (λ q. SeesEntry text q cs x) e s
-
-  pub is-placed : {r : Scan} → p ≡ Wrong c → Placed text p r → r ≡ NoSet (length text - length (drop (c .at) text))
-  is-placed {r} e s = subst (λ q. Placed text q r) e s
-
-  pub place-is : {n : ℕ} → p ≡ Wrong c → n ≡ length text - length (drop (c .at) text) → Placed text p (NoSet n)
-  place-is e q = rw e (ap NoSet q)
 
 -- ---- another piece
 
@@ -62,13 +54,6 @@ module _ (text : List ℕ) where
   no-mark (Mark c) x o s = absurd (⊎-elim (λ e. omega arith) (⊎-elim (λ e. omega arith) (λ e. omega arith)) o)
   no-mark (Letters c) x o s = absurd s
   no-mark (Wrong c) x o s = (c, refl, s)
-
-  -- Of another piece nothing is asked.
-  pub no-place : (p : Piece) (r : Scan) → Other (0 ∷ 1 ∷ 2 ∷ []) p → Placed text p r
-  no-place (Number n c) r o = tt
-  no-place (Mark c) r o = tt
-  no-place (Letters c) r o = tt
-  no-place (Wrong c) r o = absurd (⊎-elim (λ e. omega arith) (⊎-elim (λ e. omega arith) (λ e. omega arith)) o)
 
   module _ (cs : List ℕ) where
     pub no-letters : (p : Piece) (x : Parsed (List ℕ)) → Other (0 ∷ 1 ∷ 3 ∷ []) p → SeesLetters text p cs x → BothWrong text p x

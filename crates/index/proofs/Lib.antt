@@ -21,9 +21,11 @@ pub mod Halves
 pub mod HandedOn
 pub mod IsSet
 pub mod Joining
+pub mod LetterReader
 pub mod ListTests
 pub mod Masks
 pub mod MessageTest
+pub mod NumberReader
 pub mod OneCall
 pub mod OneDoor
 pub mod OneFirst
@@ -31,11 +33,13 @@ pub mod OneMessage
 pub mod OneSet
 pub mod Packing
 pub mod Pairs
+pub mod Placing
 pub mod Range
 pub mod ReadLetters
 pub mod ReadNumbers
 pub mod ReadSets
 pub mod ReadSteps
+pub mod Readers
 pub mod Records
 pub mod Recount
 pub mod Replacing
@@ -45,6 +49,7 @@ pub mod Scans
 pub mod SetCalls
 pub mod SetCounts
 pub mod SetRange
+pub mod SetReader
 pub mod SetText
 pub mod Sizes
 pub mod Splice

@@ -1,25 +1,26 @@
 -- Each public call has one possible answer: make, write_set and read_set. (For message: OneMessage.)
-use Prim.Native.Nat.{ℕ, _+_, _<_}
+use Prim.Native.Nat.{ℕ, _<_}
 use native.Mathlib.Omega.{arith}
 use mathlib.Core.Path.{_≡_, sym, _∙_, ap, subst}
-use mathlib.Core.List.{List, [], _∷_, _++_}
-use lib.ListN.{length, drop}
+use mathlib.Core.List.{List, [], _∷_}
 use Rattle.index.specs.declared.Kind.{Kind}
 use Rattle.index.specs.Letters.{letterCount}
 use Rattle.index.specs.Block.{count}
 use Rattle.index.specs.Message.{kindOf}
-use Rattle.index.specs.Text.{textOf, setOf, Entry, Writes, Replaced}
+use Rattle.index.specs.Numbers.{First}
+use Rattle.index.specs.Text.{Entry, Replaced}
 use Rattle.index.specs.declared.Wrote.{Wrote}
 use Rattle.index.specs.declared.Wrote.the-variants as wrote
 use Rattle.index.specs.declared.Took.{Took}
 use Rattle.index.specs.declared.Took.the-variants as took
-use Rattle.index.specs.Calls.{WriteAnswers, ReadAnswers, makeNeeds, writeNeeds, readNeeds, Made, Makes, Written, WritesSet, Read, ReadsSet}
-use mathlib.Core.Logic.{⊎-elim}
+use Rattle.index.specs.Calls.{WriteAnswers, ReadAnswers, makeNeeds, setNeeds, writeNeeds, Made, Makes, Written, WritesSet, Read, RoomFor, OfNone, OfSet, ReadsText, ReadsSet}
+use mathlib.Core.Logic.{inl, inr, ⊎-elim}
 use native.Mathlib.Decide.{ℕ-discrete}
 use Rattle.index.proofs.ThreeKinds.{kind?}
 use Rattle.index.proofs.TextOnce.{writes-once}
 use Rattle.index.proofs.Canonical.{canonical}
 use Rattle.index.proofs.OneFirst.{one-first}
+use Rattle.index.proofs.Placing.{place-once}
 use Rattle.index.proofs.Standing.{no-count}
 
 pub one-make : (b : List ℕ) (o o′ : ℕ × List ℕ) → Makes b o → Makes b o′ → o ≡ o′
@@ -55,37 +56,54 @@ module _ {kind : Kind} {x : ℕ} {es : List Entry} {b b₁ b₂ : List ℕ} (p :
       (λ n. p .other-kinds K x′ y k n l ∙ sym (q .other-kinds K x′ y k n l)) (kind? K kind))
       (p .same-length ∙ sym (q .same-length))
 
+module _ (b : List ℕ) (kind : Kind) (x : ℕ) (text : List ℕ) (o o′ : ℕ × ℕ × List ℕ) where
+  one-none : OfNone b kind text o → OfNone b kind text o′ → o ≡ o′
+  one-none (none, n, at, d) (none′, n′, at′, d′) =
+      let p : o .1 ≡ o′ .1 = place-once kind text (o .1) (o′ .1) at at′ in
+      λ i. ((n ∙ sym n′) i, p i, (d ∙ sym d′) i)
+
+  one-of : OfSet b kind x text o → OfSet b kind x text o′ → o ≡ o′
+  one-of (es, w, f) (es′, w′, f′) =
+      let e = writes-once kind text es es′ w w′ in
+      one-first (λ n. (n, 0, b)) ((8, RoomFor b kind x es′) ∷ []) (Read b kind x es′)
+      (λ o o′ p q.
+      let d : o .2 ≡ o′ .2 = one-replaced (p .2) (q .2) in
+      λ i. ((p .0 ∙ sym (q .0)) i, (p .1 ∙ sym (q .1)) i, d i))
+      o o′ (subst (λ (es : List Entry). First (λ n. (n, 0, b)) ((8, RoomFor b kind x es) ∷ []) (Read b kind x es) o) e f) f′
+
+  one-text : ReadsText b kind x text o → ReadsText b kind x text o′ → o ≡ o′
+  one-text (inl p) (inl q) = one-none p q
+  one-text (inl p) (inr q) = absurd (p .0 (q .0) (q .1))
+  one-text (inr p) (inl q) = absurd (q .0 (p .0) (p .1))
+  one-text (inr p) (inr q) = one-of p q
+
 pub one-read : (b : List ℕ) (kind x : ℕ) (text : List ℕ) (o o′ : ℕ × ℕ × List ℕ) → ReadsSet b kind x text o
     → ReadsSet b kind x text o′ → o ≡ o′
 unfolding ReadsSet
 one-read b kind x text =
-    one-first (λ n. (n, 0, b)) (readNeeds b kind x text) (Read b kind x text)
-    (λ o o′ p q.
-    let e = writes-once (kindOf kind) text (p .0) (q .0) (p .1) (q .1) in
-    let n : o .0 ≡ o′ .0 = p .2 ∙ sym (q .2) in
-    let l : o .1 ≡ o′ .1 = p .3 ∙ ap length e ∙ sym (q .3) in
-    let d : o .2 ≡ o′ .2 = one-replaced (rw e at (p .4)) (q .4) in
-    λ i. (n i, l i, d i))
+    one-first (λ n. (n, 0, b)) (setNeeds b kind x) (ReadsText b (kindOf kind) x text) (one-text b (kindOf kind) x text)
 
 -- ---- the same for the answers of the code: a value, or the number of a refusal
 
 module _ (P : ℕ × ℕ × List ℕ → Type 0) (one : (o o′ : ℕ × ℕ × List ℕ) → P o → P o′ → o ≡ o′) {n m : ℕ} {a b : List ℕ} where
-  one-value : P (0, n, a) → P (0, m, b) → (n ≡ m) × (a ≡ b)
+  one-value : {k : ℕ} → P (k, n, a) → P (k, m, b) → (n ≡ m) × (a ≡ b)
   one-value p q = let e = one _ _ p q in (ap (λ (o : ℕ × ℕ × List ℕ). o .1) e, ap (λ (o : ℕ × ℕ × List ℕ). o .2) e)
 
   one-number : P (n, 0, a) → P (m, 0, b) → (n ≡ m) × (a ≡ b)
   one-number p q = let e = one _ _ p q in (ap (λ (o : ℕ × ℕ × List ℕ). o .0) e, ap (λ (o : ℕ × ℕ × List ℕ). o .2) e)
 
-  not-both : P (0, n, a) → (0 < m) × P (m, 0, b) → ⊥
-  not-both p q = omega (arith, q .0, ap (λ (o : ℕ × ℕ × List ℕ). o .0) (one _ _ p (q .1)))
+  not-both : {k l : ℕ} → (k ≡ l → ⊥) → P (k, n, a) → P (l, m, b) → ⊥
+  not-both d p q = d (ap (λ (o : ℕ × ℕ × List ℕ). o .0) (one _ _ p q))
 
 module _ (b : List ℕ) (kind x : ℕ) (s : List ℕ) where
   pub one-wrote : (r r′ : Wrote) (o o′ : List ℕ) → WriteAnswers b kind x s r o → WriteAnswers b kind x s r′ o′ → (r ≡ r′) × (o ≡ o′)
   unfolding WriteAnswers
   one-wrote (wrote.Text n) (wrote.Text m) o o′ p q =
       let e = one-value (WritesSet b kind x s) (one-write b kind x s) p q in (ap wrote.Text (e .0), e .1)
-  one-wrote (wrote.Text n) (wrote.Refused m) o o′ p q = absurd (not-both (WritesSet b kind x s) (one-write b kind x s) p q)
-  one-wrote (wrote.Refused n) (wrote.Text m) o o′ p q = absurd (not-both (WritesSet b kind x s) (one-write b kind x s) q p)
+  one-wrote (wrote.Text n) (wrote.Refused m) o o′ p q =
+      absurd (not-both (WritesSet b kind x s) (one-write b kind x s) (λ e. omega (arith, q .0)) p (q .1))
+  one-wrote (wrote.Refused n) (wrote.Text m) o o′ p q =
+      absurd (not-both (WritesSet b kind x s) (one-write b kind x s) (λ e. omega (arith, p .0)) (p .1) q)
   one-wrote (wrote.Refused n) (wrote.Refused m) o o′ p q =
       let e = one-number (WritesSet b kind x s) (one-write b kind x s) (p .1) (q .1) in (ap wrote.Refused (e .0), e .1)
 
@@ -93,7 +111,16 @@ module _ (b : List ℕ) (kind x : ℕ) (s : List ℕ) where
   unfolding ReadAnswers
   one-took (took.Set n) (took.Set m) o o′ p q =
       let e = one-value (ReadsSet b kind x s) (one-read b kind x s) p q in (ap took.Set (e .0), e .1)
-  one-took (took.Set n) (took.Refused m) o o′ p q = absurd (not-both (ReadsSet b kind x s) (one-read b kind x s) p q)
-  one-took (took.Refused n) (took.Set m) o o′ p q = absurd (not-both (ReadsSet b kind x s) (one-read b kind x s) q p)
+  one-took (took.Wrong n) (took.Wrong m) o o′ p q =
+      let e = one-value (ReadsSet b kind x s) (one-read b kind x s) p q in (ap took.Wrong (e .0), e .1)
   one-took (took.Refused n) (took.Refused m) o o′ p q =
-      let e = one-number (ReadsSet b kind x s) (one-read b kind x s) (p .1) (q .1) in (ap took.Refused (e .0), e .1)
+      let e = one-number (ReadsSet b kind x s) (one-read b kind x s) (p .2) (q .2) in (ap took.Refused (e .0), e .1)
+  one-took (took.Set n) (took.Wrong m) o o′ p q = absurd (not-both (ReadsSet b kind x s) (one-read b kind x s) (λ e. omega arith) p q)
+  one-took (took.Wrong n) (took.Set m) o o′ p q = absurd (not-both (ReadsSet b kind x s) (one-read b kind x s) (λ e. omega arith) p q)
+  one-took (took.Set n) (took.Refused m) o o′ p q =
+      absurd (not-both (ReadsSet b kind x s) (one-read b kind x s) (λ e. omega (arith, q .0)) p (q .2))
+  one-took (took.Refused n) (took.Set m) o o′ p q =
+      absurd (not-both (ReadsSet b kind x s) (one-read b kind x s) (λ e. omega (arith, p .0)) (p .2) q)
+  one-took (took.Wrong n) (took.Refused m) o o′ p q =
+      absurd (not-both (ReadsSet b kind x s) (one-read b kind x s) (λ e. q .1 (sym e)) p (q .2))
+  one-took (took.Refused n) (took.Wrong m) o o′ p q = absurd (not-both (ReadsSet b kind x s) (one-read b kind x s) (p .1) (p .2) q)

@@ -1,8 +1,8 @@
 -- A change, a run of changes and a message have one outcome.
-use Prim.Native.Nat.{ℕ, _+_, _<_}
+use Prim.Native.Nat.{ℕ, _<_}
 use native.Mathlib.Omega.{arith}
 use mathlib.Core.Path.{_≡_, sym, _∙_}
-use mathlib.Core.List.{List, [], _∷_, _++_}
+use mathlib.Core.List.{List, [], _∷_}
 use Rattle.index.specs.Message.{Change, Changed, Carried, changeNeeds, steps, changes}
 use Rattle.index.specs.Listed.{changesIn}
 use Rattle.index.specs.Wide.{wideChanges}
@@ -46,21 +46,21 @@ module _ (P : List ℕ → List Change → List ℕ → ℕ × List ℕ → Type
   unfolding Carried
   run-cases [] b o h = rw h (v b)
   run-cases (c ∷ cs) b o h =
-      first-cases (P b₀ (c ∷ cs) b) (λ n. (n, b₀)) (λ p. (b₁ : List ℕ) × Changed c b b₁ × Carried b₀ cs b₁ p) (u (c ∷ cs) b)
+      first-cases (P b₀ (c ∷ cs) b) (λ n. 0 < n) (λ n. (n, b₀)) (λ p. (b₁ : List ℕ) × Changed c b b₁ × Carried b₀ cs b₁ p) (u (c ∷ cs) b)
       (λ o h. w c cs b (h .0) o (h .1) (run-cases cs (h .0) o (h .2))) (changeNeeds c b) (changes-positive c b) o h
 
 -- A message is refused, and the block is what it was, or its changes are run.
 pub message-cases : (b m : List ℕ) (P : ℕ × List ℕ → Type 0) → ((n : ℕ) → 0 < n → P (n, b))
     → ((o : ℕ × List ℕ) → Carried b (changes m) b o → P o) → (o : ℕ × List ℕ) → Message b m o → P o
 unfolding Message messageNeeds blockNeeds
-message-cases b m P u v = first-cases P (λ n. (n, b)) (Carried b (changes m) b) u v (messageNeeds b m) (omega arith)
+message-cases b m P u v = first-cases P (λ n. 0 < n) (λ n. (n, b)) (Carried b (changes m) b) u v (messageNeeds b m) (omega arith)
 
 -- The same of whatever is sent.
 pub sent-cases : (b : List ℕ) (m : Sent) (P : ℕ × List ℕ → Type 0) → ((n : ℕ) → 0 < n → P (n, b))
     → ((o : ℕ × List ℕ) → Carried b (steps (previousOf m) (newOf m)) b o → P o) → (o : ℕ × List ℕ) → Outcome b m o → P o
 unfolding changes wideChanges Wide wideNeeds blockNeeds
 sent-cases b (plain m) P u v = message-cases b m P u v
-sent-cases b (wide m) P u v = first-cases P (λ n. (n, b)) (Carried b (wideChanges m) b) u v (wideNeeds b m) (omega arith)
+sent-cases b (wide m) P u v = first-cases P (λ n. 0 < n) (λ n. (n, b)) (Carried b (wideChanges m) b) u v (wideNeeds b m) (omega arith)
 
 pub one-sent : (b : List ℕ) (m : Sent) (o o′ : ℕ × List ℕ) → Outcome b m o → Outcome b m o′ → o ≡ o′
 unfolding Wide

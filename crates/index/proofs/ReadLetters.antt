@@ -1,21 +1,19 @@
--- Reading letters and counts finds exactly what they are written as.
+-- Letters with counts are read as what they are written from.
 use Prim.Native.Nat.{ℕ, suc, _-_, _<_, _≤_}
-use mathlib.Core.Path.{_≡_, refl, sym, ap, _∙_, subst₂}
-use mathlib.Core.Bool.{Bool, true, false, _&&_}
+use mathlib.Core.Path.{_≡_, refl}
+use mathlib.Core.Bool.{Bool, true, false}
 use mathlib.Core.List.{List, [], _∷_, _++_, append-assoc}
-use mathlib.Core.Logic.{⊎-elim}
 use lib.ListN.{length, getD}
-use lib.Dec.{eqb, ltb}
+use lib.Dec.{ltb}
 use native.Mathlib.Omega.{arith}
-use borrow.Author.Tests.{le-ltb, eq-eqb, ne-eqb, ltb-false, eqb-true}
+use borrow.Author.Tests.{eq-eqb, ne-eqb, ltb-false}
 use Rattle.index.specs.Letters.{letters}
 use Rattle.index.specs.Text.{decimal, pieceOf, piecesOf}
 use Rattle.index.specs.Reading.{digit, readCount, readLetter, readCounts}
 use Rattle.index.specs.Reading.Parsed.{got}
 use Rattle.index.proofs.Decimal.{first, digit-yes, digit-high, decimal-five, decimal-spelt, Spells}
 use Rattle.index.proofs.Decimal.Spells.{spells}
-use Rattle.index.proofs.TakenApart.{and-inv, cond-inv, and-true}
-use Rattle.index.proofs.ReadNumbers.{spells-complete, number-sound}
+use Rattle.index.proofs.ReadNumbers.{spells-complete}
 use Rattle.index.specs.Block.{greatestCount}
 
 pub piece-one : (l : ℕ) → pieceOf l 1 ≡ l ∷ []
@@ -55,45 +53,6 @@ letter-complete true l (suc ℕ.zero) (b ∷ r) n h d m = simp (eq-eqb l l refl)
 letter-complete true l (suc (suc c)) r n h d m =
     simp (eq-eqb l l refl)
     (count-complete (suc (suc c)) r (decimal-spelt (suc (suc c)) (omega arith) (omega arith)) (decimal-five (suc (suc c)) (omega arith)) (omega arith) h d)
-
-count-sound : (t : List ℕ) {c : ℕ} {r : List ℕ} → readCount t ≡ got c r → (l : ℕ) → (l ∷ t ≡ pieceOf l c ++ r) × (c ≤ greatestCount)
-unfolding readCount
-count-sound [] {c} {r} e l =
-    let p : 1 ≡ c = cc in let q : _≡_ {A = List ℕ} [] r = cc in (rw (← p, ← q) (unfold pieceOf in refl), omega arith)
-count-sound (b ∷ t) {c} {r} e l =
-    ⊎-elim
-    (λ w.
-    let ns = number-sound 2 greatestCount (omega arith) (b ∷ t) (w .1) in
-    (ap (λ (x : List ℕ). l ∷ x) (ns .0) ∙ ap (λ (x : List ℕ). x ++ r) (piece-many l c (ns .2)), ns .1))
-    (λ w.
-    let f = w .1 in
-    let p : 1 ≡ c = cc in
-    let q : b ∷ t ≡ r = cc in
-    (rw (← p, ← q) (ap (λ (x : List ℕ). x ++ (b ∷ t)) (sym (piece-one l))), omega arith))
-    (cond-inv (digit b) _ _ e)
-
--- what reading a letter finds: its count c, with r left
-abbrev Piece : Bool → ℕ → List ℕ → ℕ → List ℕ → Type 0
-Piece may l t c r = (t ≡ pieceOf l c ++ r) × (c ≤ greatestCount) × (may ≡ false → c ≡ 0)
-
-no-piece : (may : Bool) (l : ℕ) (t : List ℕ) {c : ℕ} {r : List ℕ} → got 0 t ≡ got c r → Piece may l t c r
-no-piece may l t {c} {r} e =
-    let p : 0 ≡ c = cc in
-    let q : t ≡ r = cc in
-    (rw (← p, ← q) (ap (λ (x : List ℕ). x ++ t) (sym (piece-none l))), omega arith, λ _. sym p)
-
-pub letter-sound : (may : Bool) (l : ℕ) (t : List ℕ) {c : ℕ} {r : List ℕ} → readLetter may l t ≡ got c r → Piece may l t c r
-unfolding readLetter
-letter-sound may l [] e = no-piece may l [] e
-letter-sound may l (b ∷ t) e =
-    ⊎-elim
-    (λ w.
-    let a = and-true may _ (w .0) in
-    let z : b ≡ l = eqb-true b l (a .1) in
-    let s = count-sound t (w .1) l in
-    (rw z (s .0), s .1, λ n. let y : true ≡ false = sym (a .0) ∙ n in let y' : _≡_ {A = ℕ} 0 1 = cc in absurd (omega arith)))
-    (λ w. no-piece may l (b ∷ t) (w .1))
-    (cond-inv (may && eqb b l) _ _ e)
 
 -- ---- the counts of a record
 
@@ -140,41 +99,3 @@ counts-complete n (l ∷ ls) (c ∷ cs) r a e f z h =
       letter-complete (ltb 0 n) l c (piecesOf ls cs ++ r) (λ w. z 0 (omega (arith, test-zero n w))) (f 0) (digit-high _ hi) ne,
       counts-complete (n - 1) ls cs r (a .2) (omega arith) (λ k. f (suc k)) (λ k q. z (suc k) (omega arith)) h,
     )
-
--- what reading the counts of the letters ls finds: cs, with r left
-abbrev pub Counts : ℕ → List ℕ → List ℕ → List ℕ → List ℕ → Type 0
-Counts n ls t cs r =
-    (t ≡ piecesOf ls cs ++ r) × (length cs ≡ length ls) × ((k : ℕ) → getD cs k 0 ≤ greatestCount) × ((k : ℕ) → n ≤ k → getD cs k 0 ≡ 0)
-
-pub cons-bound : (c : ℕ) (cs : List ℕ) → c ≤ greatestCount → ((k : ℕ) → getD cs k 0 ≤ greatestCount) → (k : ℕ) → getD (c ∷ cs) k 0 ≤ greatestCount
-cons-bound c cs h f ℕ.zero = h
-cons-bound c cs h f (suc k) = f k
-
-pub cons-none : (n c : ℕ) (cs : List ℕ) → (ltb 0 n ≡ false → c ≡ 0) → ((k : ℕ) → n - 1 ≤ k → getD cs k 0 ≡ 0) → (k : ℕ) → n ≤ k
-    → getD (c ∷ cs) k 0 ≡ 0
-cons-none n c cs h f ℕ.zero l = h (le-ltb 0 n l)
-cons-none n c cs h f (suc k) l = f k (omega arith)
-
-counts-join : (n l : ℕ) (ls t : List ℕ) (c : ℕ) (s cs r : List ℕ) → Piece (ltb 0 n) l t c s → Counts (n - 1) ls s cs r
-    → Counts n (l ∷ ls) t (c ∷ cs) r
-unfolding piecesOf
-counts-join n l ls t c s cs r a b = (
-  a .0 ∙ ap (λ (u : List ℕ). pieceOf l c ++ u) (b .0) ∙ sym (append-assoc (pieceOf l c) (piecesOf ls cs) r),
-  ap suc (b .1),
-  cons-bound c cs (a .1) (b .2),
-  cons-none n c cs (a .2) (b .3),
-)
-
-pub counts-sound : (n : ℕ) (ls t : List ℕ) {cs r : List ℕ} → readCounts n ls t ≡ got cs r → Counts n ls t cs r
-unfolding readCounts
-counts-sound n [] t {cs} {r} e =
-    let p : _≡_ {A = List ℕ} [] cs = cc in
-    let q : t ≡ r = cc in
-    subst₂ (λ (x y : List ℕ). Counts n [] t x y) p q (unfold piecesOf in refl, refl, (λ k. omega arith), λ k l. refl)
-counts-sound n (l ∷ ls) t {cs} {r} e =
-    let (c, s, p, q) = and-inv (readLetter (ltb 0 n) l t) _ e in
-    let (cs', s', p', q') = and-inv (readCounts (n - 1) ls s) _ q in
-    let x : c ∷ cs' ≡ cs = cc in
-    let y : s' ≡ r = cc in
-    subst₂ (λ (x y : List ℕ). Counts n (l ∷ ls) t x y) x y
-    (counts-join n l ls t c s cs' s' (letter-sound (ltb 0 n) l t p) (counts-sound (n - 1) ls s p'))

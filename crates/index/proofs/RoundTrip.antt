@@ -1,9 +1,9 @@
 -- What write_set wrote of a set, read_set takes back into any good block under any key as the same set, or refuses with 8
 -- exactly where there is no room.
-use Prim.Native.Nat.{ℕ, _+_, _<_, _≤_}
+use Prim.Native.Nat.{ℕ}
 use mathlib.Core.Path.{_≡_, refl, sym, ap, subst, _∙_}
-use mathlib.Core.List.{List, [], _∷_, _++_}
-use mathlib.Core.Logic.{_⊎_, inl, inr}
+use mathlib.Core.List.{List}
+use mathlib.Core.Logic.{inl, inr}
 use native.Mathlib.Omega.{arith}
 use lib.ListN.{length, take, drop}
 use lib.Seq.{take-at}
@@ -11,9 +11,8 @@ use Rattle.index.specs.declared.Kind.{Kind}
 use Rattle.index.specs.Block.{IsName, Sized, Good}
 use Rattle.index.specs.Message.{kindOf, IsKind}
 use Rattle.index.specs.Text.{Entry, textOf, setOf, IsSet, Writes, Replaced}
-use Rattle.index.specs.Numbers.{First}
-use Rattle.index.specs.Calls.{RoomFor, blockNeeds, setNeeds, writeNeeds, readNeeds, Written, WritesSet, Read, ReadsSet}
-use Rattle.index.proofs.Firsts.{first-passed, first-past}
+use Rattle.index.specs.Calls.{RoomFor, blockNeeds, setNeeds, writeNeeds, Written, WritesSet, ReadsText, ReadsSet}
+use Rattle.index.proofs.Firsts.{first-passed, first-sure}
 use Rattle.index.proofs.SetCounts.{set-counts}
 use Rattle.index.proofs.OneSet.{one-set}
 use Rattle.index.proofs.TextOnce.{writes-once}
@@ -65,16 +64,11 @@ module _
   same : (es : List Entry) → Writes (kindOf kind) es (take n out′) → es ≡ setOf b (kindOf kind) x
   same es v = writes-once (kindOf kind) (take n out′) es (setOf b (kindOf kind) x) v written
 
-  -- What is left to test once 1 to 4 have passed.
-  abbrev Rest : List (ℕ × Type 0)
-  Rest =
-      (9, (es : List Entry) × Writes (kindOf kind) es (take n out′))
-      ∷ (8, (es : List Entry) → Writes (kindOf kind) es (take n out′) → RoomFor c (kindOf kind) z es) ∷ []
-
-  left : First (λ n. (n, 0, c)) Rest (Read c kind z (take n out′)) o
-  unfolding ReadsSet readNeeds setNeeds blockNeeds
+  -- What is left to answer once 1 to 4 have passed.
+  left : ReadsText c (kindOf kind) z (take n out′) o
+  unfolding ReadsSet setNeeds blockNeeds
   left =
-      first-past (λ n. (n, 0, c)) (setNeeds c kind z) Rest (Read c kind z (take n out′)) o
+      first-sure (λ n. (n, 0, c)) (ReadsText c (kindOf kind) z (take n out′)) o (setNeeds c kind z)
       (sized, (good, (accepted-write b kind x n out out′ w .is-kind, (named, tt)))) r
 
   abbrev pub Back : Type 0
@@ -87,12 +81,11 @@ module _
   unfolding Writes
   round-trip = go left
     where
-      go : First (λ n. (n, 0, c)) Rest (Read c kind z (take n out′)) o → Back
-      go (inl f) = absurd (f .0 (setOf b (kindOf kind) x, written))
-      go (inr (e, inl f)) = (λ h. absurd (f .0 (λ es v. rw (same es v) h)), λ h. f .1)
-      go (inr (e, inr f)) =
-          let a = f .1 in
-          let q = same (a .0) (a .1) in (
-            λ h. (a .2, a .3 ∙ ap length q, replaced-set (a .1 .0) (a .4) ∙ q),
-            λ h. absurd (h (f .0 (setOf b (kindOf kind) x) written)),
+      go : ReadsText c (kindOf kind) z (take n out′) o → Back
+      go (inl f) = absurd (f .0 (setOf b (kindOf kind) x) written)
+      go (inr (es, v, inl f)) = (λ h. absurd (f .0 (rw (same es v) h)), λ h. f .1)
+      go (inr (es, v, inr f)) =
+          let q = same es v in (
+            λ h. (f .1 .0, f .1 .1 ∙ ap length q, replaced-set (v .0) (f .1 .2) ∙ q),
+            λ h. absurd (h (subst (RoomFor c (kindOf kind) z) q (f .0))),
           )

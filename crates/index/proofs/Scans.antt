@@ -1,6 +1,6 @@
 -- The loop that reads a text record by record.
 use Prim.Native.Nat.{ℕ, suc, _+_, _-_, _<_, _≤_}
-use mathlib.Core.Path.{_≡_, refl, sym, ap, _∙_}
+use mathlib.Core.Path.{_≡_, refl, sym, ap, _∙_, subst}
 use mathlib.Core.Bool.{Bool, true, false, cond, _&&_}
 use mathlib.Core.List.{List, [], _∷_, _++_, append-assoc}
 use lib.ListN.{length, drop, length-append, length-drop, drop-of-length-le}
@@ -9,30 +9,30 @@ use native.Mathlib.Omega.{arith}
 use borrow.Author.Tests.{lt-ltb, le-ltb}
 use Rattle.index.specs.declared.Kind.{Kind}
 use Rattle.index.specs.Text.{Entry, entryText, IsSet, Writes}
+use Rattle.index.specs.Beginning.{Place}
 use Rattle.index.specs.Pieces.{more, rest}
 use Rattle.index.proofs.SetText.{rest-next}
 use Rattle.index.specs.Reading.{Parsed, andThen, readMark, readRecord, readMore, readRecords, parse}
 use Rattle.index.specs.Reading.Parsed.{got, wrong}
 use Rattle.index.proofs.TakenApart.{not-got}
 use Rattle.index.proofs.Decimal.{first}
-use Rattle.index.proofs.ReadSets.{record-complete, record-sound, mark-sound, long-entry, parse-some, parse-sound, head-entry}
+use Rattle.index.proofs.ReadSets.{record-complete, long-entry, parse-some, head-entry}
+use Rattle.index.proofs.SetReader.{record-sound, mark-sound, parse-sound}
 use Rattle.index.proofs.TextOnce.{parse-wrong}
+use Rattle.index.proofs.Placing.{wrong-place}
 use Rattle.index.proofs.ReadSteps.{and-false}
 use Rattle.index.specs.Block.{greatestName, nameCount}
 
 -- ---- after a record
 more-wrong : (e : Entry) (r : List ℕ) (rest : List ℕ → Parsed (List Entry)) {s : List ℕ} → 0 < length r → readMark r ≡ wrong s
-    → readMore e r rest ≡ wrong s
+    → readMore e r rest ≡ wrong r
 unfolding readMore readMark
 more-wrong e [] rest h m = absurd (omega arith)
-more-wrong e (b ∷ r) rest {s} h m = go (eqb b 59) refl
+more-wrong e (b ∷ r) rest h m = go (eqb b 59) refl
   where
-    go : (t : Bool) → eqb b 59 ≡ t → cond (ltb (e .id) greatestName && eqb b 59) (andThen (rest r) (λ es s. got (e ∷ es) s)) (wrong (b ∷ r)) ≡ wrong s
+    go : (t : Bool) → eqb b 59 ≡ t → cond (ltb (e .id) greatestName && eqb b 59) (andThen (rest r) (λ es s. got (e ∷ es) s)) (wrong (b ∷ r)) ≡ wrong (b ∷ r)
     go true q = absurd (not-got {a = b} {r = r} (sym m ∙ simp q))
-    go false q =
-        let n : _≡_ {A = Parsed ℕ} (wrong (b ∷ r)) (wrong s) = simp q at m in
-        let z : b ∷ r ≡ s = cc in
-        simp (q, and-false (ltb (e .id) greatestName)) (ap wrong z)
+    go false q = simp (q, and-false (ltb (e .id) greatestName))
 
 more-full : (e : Entry) (r : List ℕ) (rest : List ℕ → Parsed (List Entry)) → 0 < length r → greatestName ≤ e .id
     → readMore e r rest ≡ wrong r
@@ -63,9 +63,12 @@ joined-more : (es : List Entry) (e : Entry) (x : Parsed (List Entry))
 joined-more es e (got fs r) = ap (λ (l : List Entry). got l r) (sym (append-assoc es (e ∷ []) fs))
 joined-more es e (wrong s) = refl
 
--- The text is of no set.
-abbrev pub Refused : Kind → List ℕ → Type 0
-Refused kind text = (es : List Entry) → Writes kind es text → ⊥
+-- The text is of no set, and n is its place.
+abbrev pub Refused : Kind → List ℕ → ℕ → Type 0
+Refused kind text n = ((es : List Entry) → Writes kind es text → ⊥) × Place kind text n
+
+refused-at : (kind : Kind) (text : List ℕ) {s : List ℕ} → parse kind text ≡ wrong s → Refused kind text (length text - length s)
+refused-at kind text e = (parse-wrong kind text e, wrong-place kind text e)
 
 -- What holds as a record is to be read at a place: n records were read before it.
 pub record Turn (text : List ℕ) (kind : Kind) (at least n : ℕ) : Type 0 where
@@ -109,13 +112,13 @@ module _ (text : List ℕ) (kind : Kind) where
     unfolding readRecords
     records-wrong g f q s e = ap (λ (x : ℕ). readRecords x kind least (drop at text)) q ∙ simp e
 
-    pub turn-wrong : (s : List ℕ) → readRecord kind least (drop at text) ≡ wrong s → Refused kind text
-    turn-wrong s e = parse-wrong kind text (t .says ∙ ap (joined (t .es)) (records-wrong (t .fuel) (left .0) (left .1) s e))
+    pub turn-wrong : (s : List ℕ) → readRecord kind least (drop at text) ≡ wrong s → Refused kind text (length text - length s)
+    turn-wrong s e = refused-at kind text (t .says ∙ ap (joined (t .es)) (records-wrong (t .fuel) (left .0) (left .1) s e))
 
     module _ (e : Entry) (at′ : ℕ) (h : readRecord kind least (drop at text) ≡ got e (drop at′ text)) where
       pub shorter : length text - at′ < length text - at
       shorter =
-          let s = record-sound kind least (drop at text) h in
+          let s = record-sound kind least (omega (arith, t .small)) (drop at text) h in
           let l : length (drop at text) ≡ length (entryText e) + length (drop at′ text) =
           ap length (s .text) ∙ length-append (entryText e) (drop at′ text) in
           omega (arith, long-entry e, length-drop at text, length-drop at′ text)
@@ -130,18 +133,23 @@ module _ (text : List ℕ) (kind : Kind) where
           let p : parse kind text ≡ got (t .es ++ (e ∷ [])) [] = step ∙ simp (drop-of-length-le text k) in
           (t .es ++ (e ∷ []), parse-sound kind text p, omega (arith, length-append (t .es) (e ∷ []), t .size))
 
-      pub turn-no-mark : (s : List ℕ) → at′ < length text → readMark (drop at′ text) ≡ wrong s → Refused kind text
-      turn-no-mark s k m =
-          parse-wrong kind text (step ∙ ap (joined (t .es)) (more-wrong e (drop at′ text) _ (omega (arith, length-drop at′ text)) m))
+      -- no record can follow: the place is after this one
+      stop : at′ < length text → readMore e (drop at′ text) (λ s. readRecords (left .0) kind (e .id + 1) s) ≡ wrong (drop at′ text)
+          → Refused kind text at′
+      stop k q =
+          let z : length text - length (drop at′ text) ≡ at′ = omega (arith, length-drop at′ text) in
+          subst (Refused kind text) z (refused-at kind text (step ∙ ap (joined (t .es)) q))
 
-      pub turn-full : at′ < length text → e .id ≡ greatestName → Refused kind text
-      turn-full k m =
-          parse-wrong kind text (step ∙ ap (joined (t .es)) (more-full e (drop at′ text) _ (omega (arith, length-drop at′ text)) (omega arith)))
+      pub turn-no-mark : (s : List ℕ) → at′ < length text → readMark (drop at′ text) ≡ wrong s → Refused kind text at′
+      turn-no-mark s k m = stop k (more-wrong e (drop at′ text) _ (omega (arith, length-drop at′ text)) m)
+
+      pub turn-full : at′ < length text → e .id ≡ greatestName → Refused kind text at′
+      turn-full k m = stop k (more-full e (drop at′ text) _ (omega (arith, length-drop at′ text)) (omega arith))
 
       pub turn-next : (m at″ : ℕ) → (e .id ≡ greatestName → ⊥) → readMark (drop at′ text) ≡ got m (drop at″ text)
           → Turn text kind at″ (e .id + 1) (n + 1) × (length text - at″ < length text - at)
       turn-next m at″ o k =
-          let s = record-sound kind least (drop at text) h in
+          let s = record-sound kind least (omega (arith, t .small)) (drop at text) h in
           let n : e .id < greatestName = omega (arith, s .entry .named) in
           let q : suc (length (drop at″ text)) ≡ length (drop at′ text) = ap length (sym (mark-sound (drop at′ text) k)) in
           let l : length text - at″ < length text - at = omega (arith, shorter, length-drop at′ text, length-drop at″ text) in (

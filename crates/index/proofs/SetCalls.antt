@@ -1,23 +1,26 @@
 -- What the two calls on sets answer, case by case.
 use Prim.Native.Nat.{ℕ, _+_, _<_, _≤_}
 use mathlib.Core.Path.{_≡_, refl, sym, ap, _∙_, subst}
-use mathlib.Core.List.{List, _++_}
-use mathlib.Core.Logic.{inl, inr}
+use mathlib.Core.List.{List, [], _∷_, _++_}
+use mathlib.Core.Logic.{inl, inr, ⊎-elim}
 use native.Mathlib.Omega.{arith}
 use lib.ListN.{length, drop}
 use lib.Seq.{sets, sets-eq}
+use types.Run.{OneOf}
+use denote.Enum.Declared.{tagOf}
 use Rattle.index.specs.declared.Kind.{Kind}
 use Rattle.index.specs.declared.Wrote.the-variants as wrote
+use Rattle.index.specs.declared.Took.{Took}
 use Rattle.index.specs.declared.Took.the-variants as took
-use Rattle.index.specs.declared.scanning.Scan.the-variants.{Records}
 use Rattle.index.specs.Numbers.{Answers}
 use Rattle.index.specs.Block.{IsName, Sized, Good, records, room}
-use Rattle.index.specs.Message.{IsKind, kindOf}
+use Rattle.index.specs.Message.{kindOf}
 use Rattle.index.specs.Text.{Entry, textOf, setOf, Writes, Replaced}
-use Rattle.index.specs.Calls.{blockNeeds, setNeeds, writeNeeds, Written, WritesSet, WriteAnswers, readNeeds, Read, ReadsSet, ReadAnswers}
+use Rattle.index.specs.Calls.{blockNeeds, setNeeds, writeNeeds, Written, WritesSet, WriteAnswers, ReadsText, ReadsSet, ReadAnswers}
 use Rattle.index.specs.Pieces.{Scanned}
-use Rattle.index.proofs.TextOnce.{scanned-length}
-use Rattle.index.proofs.Firsts.{All, all-hold, refused-first, passed-first}
+use Rattle.index.proofs.Took.{the-type}
+use Rattle.index.proofs.OneFirst.{first-cases}
+use Rattle.index.proofs.Firsts.{All, all-hold, first-all, refuses, refused-first, passed-first}
 
 -- ---- the shared tests
 
@@ -38,6 +41,12 @@ pub record Held (b : List ℕ) (kind x : ℕ) : Type 0 where
 pub held : (b : List ℕ) (kind x : ℕ) → All (setNeeds b kind x) → Held b kind x
 unfolding setNeeds blockNeeds
 held b kind x h = record { sized = h .0; good = h .1 .0; named = h .1 .1 .1 .0 }
+
+-- None of them has the number 9.
+set-not-9 : (b : List ℕ) (kind x r : ℕ) → Answers (setNeeds b kind x) r → r ≡ 9 → ⊥
+unfolding setNeeds blockNeeds
+set-not-9 b kind x =
+    first-cases (λ r. r ≡ 9 → ⊥) (λ n. n ≡ 9 → ⊥) (λ n. n) (λ n. n ≡ 0) (λ n q. q) (λ r z e. omega arith) (setNeeds b kind x) (omega arith)
 
 -- ---- write
 
@@ -70,51 +79,32 @@ module _ (b : List ℕ) (kind x : ℕ) (out : List ℕ) where
 
 module _ (b : List ℕ) (kind x : ℕ) (text : List ℕ) where
   pub took-refused : (r : ℕ) → 0 < r → Answers (setNeeds b kind x) r → ReadAnswers b kind x text (took.Refused r) b
-  unfolding ReadAnswers ReadsSet readNeeds
-  took-refused r h a = (h, refused-first (λ n. (n, 0, b)) (setNeeds b kind x) _ (Read b kind x text) r h a)
+  unfolding ReadAnswers ReadsSet
+  took-refused r h a =
+      (h, set-not-9 b kind x r a, refuses (λ n. (n, 0, b)) (ReadsText b (kindOf kind) x text) (setNeeds b kind x) (λ e. omega arith) a)
 
   module _ (h : All (setNeeds b kind x)) (K : Kind) (q : K ≡ kindOf kind) where
-    here : (es : List Entry) → Writes (kindOf kind) es text → Writes K es text
-    here es w = subst (λ (L : Kind). Writes L es text) (sym q) w
+    there : (o : ℕ × ℕ × List ℕ) → ReadsText b K x text o → ReadsSet b kind x text o
+    unfolding ReadsSet
+    there o w =
+        first-all (λ n. (n, 0, b)) (ReadsText b (kindOf kind) x text) o (setNeeds b kind x) h
+        (subst (λ (L : Kind). ReadsText b L x text o) q w)
 
-    there : (es : List Entry) → Writes K es text → Writes (kindOf kind) es text
-    there es w = subst (λ (L : Kind). Writes L es text) q w
+    -- What came of the text is not how many records it is of, so it is of none, and wrong at its place.
+    pub took-wrong : (r : Took) → OneOf (1 ∷ 2 ∷ []) (tagOf the-type r) → Scanned K text r → ReadAnswers b kind x text r b
+    unfolding ReadAnswers
+    took-wrong (took.Set n) o s = absurd (⊎-elim (λ e. omega arith) (λ e. omega arith) o)
+    took-wrong (took.Wrong n) o s = there (9, n, b) (inl (s .0, refl, s .1, refl))
+    took-wrong (took.Refused n) o s = absurd s
 
-    pub took-wrong : ((es : List Entry) → Writes K es text → ⊥) → ReadAnswers b kind x text (took.Refused 9) b
-    unfolding ReadAnswers ReadsSet readNeeds
-    took-wrong none = (
-      omega arith,
-      passed-first (λ n. (n, 0, b)) (setNeeds b kind x) _ (Read b kind x text) (9, 0, b) h
-          (inl ((λ w. none (w .0) (here (w .0) (w .1))), refl)),
-    )
-
-    module _ {n old : ℕ} (s : Scanned K text (Records n)) (e : length (setOf b K x) ≡ old) where
-      same : length (setOf b (kindOf kind) x) ≡ old
-      same = subst (λ (L : Kind). length (setOf b L x) ≡ old) q e
-
+    module _ {n old : ℕ} (s : Scanned K text (took.Set n)) (e : length (setOf b K x) ≡ old) where
       pub took-full : room b + old < records b + n → ReadAnswers b kind x text (took.Refused 8) b
-      unfolding ReadAnswers ReadsSet readNeeds
-      took-full l = (
-        omega arith,
-        passed-first (λ n. (n, 0, b)) (setNeeds b kind x) _ (Read b kind x text) (8, 0, b) h
-            (inr ((s .0, there (s .0) (s .1)), inl ((λ k. omega (arith, k (s .0) (there (s .0) (s .1)), s .2, same)), refl))),
-      )
+      unfolding ReadAnswers
+      took-full l =
+          (omega arith, (λ e. omega arith), there (8, 0, b) (inr (s .0, s .1, inl ((λ k. omega (arith, k, s .2, e)), refl))))
 
       pub took-set : {b′ : List ℕ} → records b + n ≤ room b + old
           → ((es : List Entry) → Writes K es text → length es ≡ n → Replaced K x es b b′) → ReadAnswers b kind x text (took.Set n) b′
-      unfolding ReadAnswers ReadsSet readNeeds
+      unfolding ReadAnswers
       took-set {b′} l r =
-          passed-first (λ n. (n, 0, b)) (setNeeds b kind x) _ (Read b kind x text) (0, n, b′) h
-          (inr (
-            (s .0, there (s .0) (s .1)),
-            inr (
-              (λ es w. omega (arith, scanned-length K text n es s (here es w), same)),
-              (
-                s .0,
-                there (s .0) (s .1),
-                refl,
-                sym (s .2),
-                subst (λ (L : Kind). Replaced L x (s .0) b b′) q (r (s .0) (s .1) (s .2)),
-              ),
-            ),
-          ))
+          there (0, n, b′) (inr (s .0, s .1, inr (omega (arith, s .2, e), (refl, sym (s .2), r (s .0) (s .1) (s .2)))))

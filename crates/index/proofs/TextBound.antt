@@ -5,19 +5,21 @@ use mathlib.Core.Bool.{Bool, true, false, cond}
 use mathlib.Core.List.{List, [], _∷_}
 use native.Mathlib.Omega.{arith}
 use lib.Dec.{eqb}
-use lib.ListN.{length, getD, length-append}
+use lib.ListN.{length, getD, take, length-append, length-take}
 use Rattle.index.specs.declared.Kind.{Kind}
 use Rattle.index.specs.Letters.{letters}
 use Rattle.index.specs.Block.{place, Sized, Good, records, size, from, key}
-use Rattle.index.specs.Text.{Entry, decimal, pieceOf, piecesOf, entryText, textOf, countsAt, entryAt, setFrom, setOf}
-use Rattle.index.specs.Pieces.{nextText, rest}
+use Rattle.index.specs.Text.{Entry, decimal, pieceOf, piecesOf, entryText, textOf, entryAt, setFrom, setOf, IsSet, Writes}
+use Rattle.index.specs.Beginning.{Begins, Place}
+use Rattle.index.specs.Pieces.{nextText}
 use Rattle.index.specs.Longest.{fieldDigits, longestPiece, longestRecord, mostRecords, longestText}
 use Rattle.index.proofs.Bytes.{number-small, count-small}
 use Rattle.index.proofs.Digits.{ten}
 use Rattle.index.proofs.Decimal.{decimal-five}
 use Rattle.index.proofs.Records.{gap-in}
 use Rattle.index.proofs.SetCounts.{counts-any}
-use Rattle.index.proofs.SetText.{rest-next, rest-none}
+use Rattle.index.proofs.IsSet.{is-set}
+use Rattle.index.proofs.ReadSets.{set-few}
 
 pub piece-bound : (l n : ℕ) → n < ten fieldDigits → length (pieceOf l n) ≤ longestPiece
 unfolding pieceOf
@@ -32,42 +34,54 @@ pieces-bound (l ∷ ls) [] h = omega arith
 pieces-bound (l ∷ ls) (c ∷ cs) h =
     omega (arith, length-append (pieceOf l c) (piecesOf ls cs), piece-bound l c (h 0), pieces-bound ls cs (λ k. h (suc k)))
 
--- The records of a block, whose bytes are bytes.
-module _ (b : List ℕ) (bytes : (j : ℕ) → getD b j 0 < 256) where
-  record-bound : (i : ℕ) → length (entryText (entryAt b i)) < longestRecord
-  unfolding entryText letters
-  record-bound i =
-      omega (
-        arith,
-        length-append (decimal (entryAt b i .id)) (59 ∷ piecesOf letters (countsAt b i)),
-        decimal-five (entryAt b i .id) (omega (arith, number-small b (place i + 2) bytes)),
-        pieces-bound letters (countsAt b i) (λ k. omega (arith, counts-any b i k, count-small b i k bytes)),
-      )
+entry-bound : (e : Entry) → e .id < ten fieldDigits → ((k : ℕ) → getD (e .counts) k 0 < ten fieldDigits) → length (entryText e) < longestRecord
+unfolding entryText letters
+entry-bound e h f =
+    omega (
+      arith,
+      length-append (decimal (e .id)) (59 ∷ piecesOf letters (e .counts)),
+      decimal-five (e .id) h,
+      pieces-bound letters (e .counts) f,
+    )
 
-  -- With the `;` before it, where the text has begun.
-  pub next-bound : (begun : Bool) (i : ℕ) → length (nextText begun (entryAt b i)) ≤ longestRecord
-  next-bound true i = record-bound i
-  next-bound false i = omega (arith, record-bound i)
+-- A record of a block, whose bytes are bytes, with the `;` before it, where the text has begun.
+pub next-bound : (b : List ℕ) → ((j : ℕ) → getD b j 0 < 256) → (begun : Bool) (i : ℕ) → length (nextText begun (entryAt b i)) ≤ longestRecord
+next-bound b bytes begun i =
+    let e =
+    entry-bound (entryAt b i) (omega (arith, number-small b (place i + 2) bytes))
+    (λ k. omega (arith, counts-any b i k, count-small b i k bytes)) in
+    go begun e
+  where
+    go : (begun : Bool) → length (entryText (entryAt b i)) < longestRecord → length (nextText begun (entryAt b i)) ≤ longestRecord
+    go true e = e
+    go false e = omega arith
 
-  pub text-bound : (begun : Bool) (x i n : ℕ) → length (rest begun (setFrom b x i n)) ≤ longestRecord * length (setFrom b x i n)
-  unfolding setFrom
-  text-bound begun x i zero = omega (arith, ap length (rest-none begun))
-  text-bound begun x i (suc n) = go (eqb (key b i) x) (λ begun. text-bound begun x (i + 1) n)
-    where
-      es : List Entry
-      es = setFrom b x (i + 1) n
+pub text-bound : {kind : Kind} {es : List Entry} → IsSet kind es → length (textOf es) ≤ longestRecord * length es
+unfolding textOf
+text-bound IsSet.empty = omega arith
+text-bound (IsSet.one {e = e} h) = omega (arith, entry-bound e (omega (arith, h .named)) (λ k. omega (arith, h .fits k)))
+text-bound (IsSet.more {e = e} {f = f} {es = es} h l s) =
+    omega (
+      arith,
+      length-append (entryText e) (59 ∷ textOf (f ∷ es)),
+      entry-bound e (omega (arith, h .named)) (λ k. omega (arith, h .fits k)),
+      text-bound s,
+    )
 
-      go : (t : Bool) → ((begun : Bool) → length (rest begun es) ≤ longestRecord * length es)
-          → length (rest begun (cond t (entryAt b i ∷ es) es)) ≤ longestRecord * length (cond t (entryAt b i ∷ es) es)
-      go true h =
-          omega (
-            arith,
-            ap length (rest-next begun (entryAt b i) es),
-            length-append (nextText begun (entryAt b i)) (rest true es),
-            next-bound begun i,
-            h true,
-          )
-      go false h = h begun
+-- So no place is far on.
+pub place-bound : {kind : Kind} {t : List ℕ} {n : ℕ} → Place kind t n → n ≤ longestText
+unfolding Begins Writes
+place-bound {kind} {t} {n} p =
+    let (es, more, w) = p .begins in
+    omega (
+      arith,
+      p .within,
+      length-take n t,
+      length-append (take n t) more,
+      ap length (w .1),
+      text-bound (w .0),
+      set-few (w .0),
+    )
 
 set-bound : (b : List ℕ) (x i n : ℕ) → length (setFrom b x i n) ≤ n
 unfolding setFrom
@@ -88,7 +102,7 @@ unfolding setOf
 set-text-bound {b} s g kind x =
     omega (
       arith,
-      text-bound b (g .bytes) false x (from b kind) (size b kind),
+      text-bound (is-set g kind x),
       set-bound b x (from b kind) (size b kind),
       gap-in kind b (size b kind) (omega arith),
       few-records s g,

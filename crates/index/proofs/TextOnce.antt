@@ -6,7 +6,7 @@ use lib.ListN.{length}
 use Rattle.index.specs.declared.Kind.{Kind}
 use Rattle.index.specs.Text.{Entry, textOf, IsSet, Writes}
 use Rattle.index.specs.Reading.{parse}
-use Rattle.index.specs.declared.scanning.Scan.the-variants.{Records}
+use Rattle.index.specs.declared.Took.the-variants as took
 use Rattle.index.specs.Pieces.{Scanned}
 use Rattle.index.specs.Reading.Parsed.{got, wrong}
 use Rattle.index.proofs.TakenApart.{not-got}
@@ -31,5 +31,5 @@ pub writes-once : (kind : Kind) (t : List ℕ) (es fs : List Entry) → Writes k
 unfolding Writes
 writes-once kind t es fs w v = text-once kind es fs (w .0) (v .0) (w .1 ∙ sym (v .1))
 
-pub scanned-length : (kind : Kind) (t : List ℕ) (n : ℕ) (es : List Entry) → Scanned kind t (Records n) → Writes kind es t → length es ≡ n
+pub scanned-length : (kind : Kind) (t : List ℕ) (n : ℕ) (es : List Entry) → Scanned kind t (took.Set n) → Writes kind es t → length es ≡ n
 scanned-length kind t n es s w = ap length (writes-once kind t es (s .0) w (s .1)) ∙ s .2

@@ -1,10 +1,15 @@
--- A refusal changes nothing: its number is above 0, its value is 0, and each lent byte is as it came.
+-- A refusal changes nothing: its number is above 0, its value is 0, and with 9 the place of the text, and each lent byte is
+-- as it came.
 use Prim.Native.Nat.{ℕ, _<_}
 use native.Mathlib.Omega.{arith}
 use mathlib.Core.Path.{_≡_, refl}
-use mathlib.Core.List.{List, [], _∷_, _++_}
-use Rattle.index.specs.Calls.{blockNeeds, setNeeds, makeNeeds, writeNeeds, readNeeds, Made, Makes, Message, Written, WritesSet, Read, ReadsSet}
+use mathlib.Core.List.{List}
+use Rattle.index.specs.Calls.{blockNeeds, setNeeds, makeNeeds, writeNeeds, Made, Makes, Message, Written, WritesSet, ReadsText, ReadsSet}
+use mathlib.Core.Logic.{inl, inr}
+use Rattle.index.specs.declared.Kind.{Kind}
 use Rattle.index.specs.Numbers.{First}
+use Rattle.index.specs.Message.{kindOf}
+use Rattle.index.specs.Beginning.{Place}
 use Rattle.index.proofs.OneFirst.{first-cases}
 use Rattle.index.proofs.Firsts.{Positive}
 use Rattle.index.proofs.OneMessage.{message-cases, run-cases}
@@ -13,7 +18,7 @@ use Rattle.index.proofs.OneMessage.{message-cases, run-cases}
 first-refused : {O : Type 0} (number : O → ℕ) (refusal : ℕ → O) (accepted : O → Type 0) → ((o : O) → accepted o → number o ≡ 0)
     → (ts : List (ℕ × Type 0)) → Positive ts → (o : O) → First refusal ts accepted o → 0 < number o → (n : ℕ) × (o ≡ refusal n)
 first-refused number refusal accepted zero ts positive =
-    first-cases (λ o. 0 < number o → (n : ℕ) × (o ≡ refusal n)) refusal accepted (λ n l h. (n, refl))
+    first-cases (λ o. 0 < number o → (n : ℕ) × (o ≡ refusal n)) (λ n. 0 < n) refusal accepted (λ n l h. (n, refl))
     (λ o a h. absurd (omega (arith, zero o a))) ts positive
 
 pub make-unchanged : (b : List ℕ) (o : ℕ × List ℕ) → Makes b o → 0 < o .0 → (n : ℕ) × (o ≡ (n, b))
@@ -32,8 +37,18 @@ unfolding WritesSet writeNeeds setNeeds blockNeeds
 write-unchanged b kind x out =
     first-refused {O = ℕ × ℕ × List ℕ} (λ o. o .0) (λ n. (n, 0, out)) (Written b kind x out) (λ o a. rw a) (writeNeeds b kind x out) (omega arith)
 
+-- With 9 the value is the place of the text, with any other number it is 0.
+abbrev pub Kept : List ℕ → Kind → List ℕ → (ℕ × ℕ × List ℕ) → Type 0
+Kept b kind text o = (o .2 ≡ b) × (o .0 ≡ 9 → Place kind text (o .1)) × ((o .0 ≡ 9 → ⊥) → o .1 ≡ 0)
+
+text-kept : (b : List ℕ) (kind : Kind) (x : ℕ) (text : List ℕ) (o : ℕ × ℕ × List ℕ) → ReadsText b kind x text o → 0 < o .0 → Kept b kind text o
+text-kept b kind x text o (inl (none, n, at, d)) h = (d, (λ e. at), λ q. absurd (q n))
+text-kept b kind x text o (inr (es, w, inl f)) h = rw (f .1) (refl, (λ e. absurd (omega arith)), λ q. refl)
+text-kept b kind x text o (inr (es, w, inr f)) h = absurd (omega (arith, f .1 .0))
+
 pub read-unchanged : (b : List ℕ) (kind x : ℕ) (text : List ℕ) (o : ℕ × ℕ × List ℕ) → ReadsSet b kind x text o → 0 < o .0
-    → (n : ℕ) × (o ≡ (n, 0, b))
-unfolding ReadsSet readNeeds setNeeds blockNeeds
+    → Kept b (kindOf kind) text o
+unfolding ReadsSet setNeeds blockNeeds
 read-unchanged b kind x text =
-    first-refused {O = ℕ × ℕ × List ℕ} (λ o. o .0) (λ n. (n, 0, b)) (Read b kind x text) (λ o a. a .2) (readNeeds b kind x text) (omega arith)
+    first-cases (λ o. 0 < o .0 → Kept b (kindOf kind) text o) (λ n. n ≡ 9 → ⊥) (λ n. (n, 0, b)) (ReadsText b (kindOf kind) x text)
+    (λ n q h. (refl, (λ e. absurd (q e)), λ q. refl)) (text-kept b (kindOf kind) x text) (setNeeds b kind x) (omega arith)

@@ -2,6 +2,7 @@
 use Prim.Native.Nat.{ℕ, _+_, _<_, _≤_}
 use mathlib.Core.Path.{_≡_}
 use mathlib.Core.List.{List, [], _∷_, _++_}
+use mathlib.Core.Logic.{_⊎_}
 use lib.ListN.{length, drop}
 use Rattle.index.specs.declared.Kind.{Kind}
 use Rattle.index.specs.declared.Wrote.{Wrote}
@@ -14,6 +15,7 @@ use Rattle.index.specs.Message.{IsKind, kindOf, previous, new, WellForme
 use Rattle.index.specs.Listed.{kindIn, halfIn, changesIn}
 use Rattle.index.specs.Wide.{WideFormed, widePrevious, wideNew, wideChanges}
 use Rattle.index.specs.Text.{Entry, textOf, setOf, Writes, Replaced}
+use Rattle.index.specs.Beginning.{Place}
 
 -- 1: "block length not 16 to 40,976"; 2: "block not good".
 unfoldable pub blockNeeds : List ℕ → List (ℕ × Type 0)
@@ -78,25 +80,31 @@ writeNeeds b kind x out = setNeeds b kind x ++ ((10, length (textOf (setOf b (ki
 unfoldable pub WritesSet : List ℕ → ℕ → ℕ → List ℕ → (ℕ × ℕ × List ℕ) → Type 0
 WritesSet b kind x out o = First (λ n. (n, 0, out)) (writeNeeds b kind x out) (Written b kind x out) o
 
--- read: the number, how many records the set has, and the block then. 9: "not the text of any set of that kind"; 8: after
--- "removing the old set", "the records do not fit". "read tests 9 before 8."
-abbrev pub Read : List ℕ → ℕ → ℕ → List ℕ → (ℕ × ℕ × List ℕ) → Type 0
-Read b kind x text o =
-    (es : List Entry) × Writes (kindOf kind) es text × (o .0 ≡ 0) × (o .1 ≡ length es)
-    × Replaced (kindOf kind) x es b (o .2)
+-- read: the number, how many records the set has, and the block then. "Reading replaces the whole set of that kind and key,
+-- and returns how many records it has."
+abbrev pub Read : List ℕ → Kind → ℕ → List Entry → (ℕ × ℕ × List ℕ) → Type 0
+Read b kind x es o = (o .0 ≡ 0) × (o .1 ≡ length es) × Replaced kind x es b (o .2)
 
 -- Without the block's own set of this kind and key, the records of es fit.
 abbrev pub RoomFor : List ℕ → Kind → ℕ → List Entry → Type 0
 RoomFor b kind x es = records b + length es ≤ room b + length (setOf b kind x)
 
-unfoldable pub readNeeds : List ℕ → ℕ → ℕ → List ℕ → List (ℕ × Type 0)
-readNeeds b kind x text =
-    setNeeds b kind x
-    ++ ((9, (es : List Entry) × Writes (kindOf kind) es text)
-    ∷ (8, (es : List Entry) → Writes (kindOf kind) es text → RoomFor b (kindOf kind) x es) ∷ [])
+-- The text is of no set. 9: "not the text of any set of that kind". M-101: "9 returns this place where it returned 0."
+abbrev pub OfNone : List ℕ → Kind → List ℕ → (ℕ × ℕ × List ℕ) → Type 0
+OfNone b kind text o =
+    ((es : List Entry) → Writes kind es text → ⊥) × (o .0 ≡ 9) × Place kind text (o .1) × (o .2 ≡ b)
+
+-- The text is of a set. 8: after "removing the old set", "the records do not fit".
+abbrev pub OfSet : List ℕ → Kind → ℕ → List ℕ → (ℕ × ℕ × List ℕ) → Type 0
+OfSet b kind x text o =
+    (es : List Entry) × Writes kind es text × First (λ n. (n, 0, b)) ((8, RoomFor b kind x es) ∷ []) (Read b kind x es) o
+
+-- "read tests 9 before 8."
+abbrev pub ReadsText : List ℕ → Kind → ℕ → List ℕ → (ℕ × ℕ × List ℕ) → Type 0
+ReadsText b kind x text o = OfNone b kind text o ⊎ OfSet b kind x text o
 
 unfoldable pub ReadsSet : List ℕ → ℕ → ℕ → List ℕ → (ℕ × ℕ × List ℕ) → Type 0
-ReadsSet b kind x text o = First (λ n. (n, 0, b)) (readNeeds b kind x text) (Read b kind x text) o
+ReadsSet b kind x text o = First (λ n. (n, 0, b)) (setNeeds b kind x) (ReadsText b (kindOf kind) x text) o
 
 -- ---- what each case of an answer stands for: 01's number, and its value
 
@@ -106,4 +114,5 @@ WriteAnswers b kind x out (wrote.Refused n) out′ = (0 < n) × WritesSet b kind
 
 unfoldable pub ReadAnswers : List ℕ → ℕ → ℕ → List ℕ → Took → List ℕ → Type 0
 ReadAnswers b kind x text (took.Set n) b′ = ReadsSet b kind x text (0, n, b′)
-ReadAnswers b kind x text (took.Refused n) b′ = (0 < n) × ReadsSet b kind x text (n, 0, b′)
+ReadAnswers b kind x text (took.Wrong place) b′ = ReadsSet b kind x text (9, place, b′)
+ReadAnswers b kind x text (took.Refused n) b′ = (0 < n) × (n ≡ 9 → ⊥) × ReadsSet b kind x text (n, 0, b′)

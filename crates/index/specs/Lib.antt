@@ -5,6 +5,7 @@ pub mod Block
 pub mod Doors
 pub mod Message
 pub mod Text
+pub mod Beginning
 pub mod Calls
 pub mod History
 -- What the builder of a crate above reads: a list of changes.

@@ -1,14 +1,15 @@
 -- For proofs only: what the piece readers of the code answer, as readings of the bytes that are left, and the text of a set
 -- from a record on.
-use Prim.Native.Nat.{ℕ, _-_}
+use Prim.Native.Nat.{ℕ}
 use mathlib.Core.Path.{_≡_}
 use mathlib.Core.Bool.{Bool, true, false}
 use mathlib.Core.List.{List, [], _∷_, _++_}
 use lib.ListN.{length, drop}
 use Rattle.index.specs.declared.Kind.{Kind}
-use Rattle.index.specs.declared.scanning.Scan.{Scan}
-use Rattle.index.specs.declared.scanning.Scan.the-variants.{Records, Wrong as NoSet}
+use Rattle.index.specs.declared.Took.{Took}
+use Rattle.index.specs.declared.Took.the-variants as took
 use Rattle.index.specs.Text.{Entry, Writes, entryText, textOf}
+use Rattle.index.specs.Beginning.{Place}
 use Rattle.index.specs.declared.reading.Piece.{Piece}
 use Rattle.index.specs.declared.reading.Piece.the-variants.{Number, Mark, Letters, Wrong}
 use Rattle.index.specs.Reading.{Parsed}
@@ -41,17 +42,19 @@ SeesEntry text (Mark c) cs x = ⊥
 SeesEntry text (Letters c) cs x = ⊥
 SeesEntry text (Wrong c) cs x = x ≡ wrong (drop (c .at) text)
 
--- The place of a wrong piece is the text's.
-abbrev pub Placed : List ℕ → Piece → Scan → Type 0
-Placed text (Number n c) r = Unit {0}
-Placed text (Mark c) r = Unit {0}
-Placed text (Letters c) r = Unit {0}
-Placed text (Wrong c) r = r ≡ NoSet (length text - length (drop (c .at) text))
+-- The place that a piece has: the one after it, or, where it is wrong, that of the first byte that may not stand there.
+abbrev pub placeIn : Piece → ℕ
+placeIn (Number n c) = c .at
+placeIn (Mark c) = c .at
+placeIn (Letters c) = c .at
+placeIn (Wrong c) = c .at
 
--- The text is what some set of the kind is written as, which has n records; or no set is written so.
-abbrev pub Scanned : Kind → List ℕ → Scan → Type 0
-Scanned kind text (Records n) = (es : List Entry) × Writes kind es text × (length es ≡ n)
-Scanned kind text (NoSet n) = (es : List Entry) → Writes kind es text → ⊥
+-- The text is what some set of the kind is written as, which has n records; or no set is written so, and n is its place. No
+-- other refusal comes of a text.
+abbrev pub Scanned : Kind → List ℕ → Took → Type 0
+Scanned kind text (took.Set n) = (es : List Entry) × Writes kind es text × (length es ≡ n)
+Scanned kind text (took.Wrong n) = ((es : List Entry) → Writes kind es text → ⊥) × Place kind text n
+Scanned kind text (took.Refused n) = ⊥
 
 -- A record as it is added to the text of a set: with `;` before it where the text has begun.
 abbrev pub nextText : Bool → Entry → List ℕ

@@ -75,8 +75,9 @@ pub enum Wrote {
     Refused(u8),
 }
 
-// What came of reading a set: so many records, or the number of the refusal.
+// What came of reading a set: so many records; or a text of no set, and its place; or the number of another refusal.
 pub enum Took {
     Set(usize),
+    Wrong(usize),
     Refused(u8),
 }

@@ -3,37 +3,46 @@
 use crate::GREATEST_NAME;
 use crate::Kind;
 use crate::LETTER_COUNT;
+use crate::Took;
 use crate::entries::read_record;
 use crate::reading::Cursor;
 use crate::reading::Piece;
 use crate::reading::mark;
-ghost use Rattle.index.specs.Pieces.{Placed, Scanned};
+ghost use mathlib.Core.Path.{_≡_};
+ghost use Prim.Native.Nat.{_-_};
+ghost use lib.ListN.{length, drop};
+ghost use Rattle.index.specs.declared.Took.the-variants.{Wrong};
+ghost use Rattle.index.specs.Pieces.{placeIn, Scanned};
 
-// What a text is: of a set with so many records, or of no set, and wrong at a place.
-pub enum Scan {
-    Records(usize),
-    Wrong(usize),
-}
-
-// What a text is that has a wrong piece.
-fn refused(text: &[u8], piece: Piece) -> Scan
-    ensures { λ r. ⌜ Placed (now (text .entry)) piece r ⌝ }
+// The place that a piece has.
+fn place_in(piece: Piece) -> usize
+    ensures { λ r. ⌜ r ≡ placeIn piece ⌝ }
 {
-    let Piece::Wrong(place) = piece else {
-        return Scan::Wrong(0);
-    };
-    if text.len() < place.at {
-        return Scan::Wrong(text.len());
+    match piece {
+        Piece::Number(_, c) => c.at,
+        Piece::Mark(c) => c.at,
+        Piece::Letters(c) => c.at,
+        Piece::Wrong(c) => c.at,
     }
-    Scan::Wrong(place.at)
 }
 
-// Reads a text through, and changes nothing.
-pub(crate) fn scan_text(text: &[u8], kind: Kind) -> Scan
+// What comes of a text that has a wrong piece.
+fn refused(text: &[u8], piece: Piece) -> Took
+    ensures { λ r. ⌜ r ≡ Wrong (length (now (text .entry)) - length (drop (placeIn piece) (now (text .entry)))) ⌝ }
+{
+    let place = place_in(piece);
+    if text.len() < place {
+        return Took::Wrong(text.len());
+    }
+    Took::Wrong(place)
+}
+
+// Reads a text through, and changes nothing: how many records it is of, or its place.
+pub(crate) fn scan_text(text: &[u8], kind: Kind) -> Took
     ensures { λ r. ⌜ Scanned kind (now (text .entry)) r ⌝ }
 {
     if text.len() == 0 {
-        return Scan::Records(0);
+        return Took::Set(0);
     }
     let mut out = [0usize; LETTER_COUNT];
     let mut here = Cursor { at: 0 };
@@ -47,14 +56,13 @@ pub(crate) fn scan_text(text: &[u8], kind: Kind) -> Scan
         n += 1;
         let at = next.at;
         if text.len() <= at {
-            return Scan::Records(n);
+            return Took::Set(n);
         }
         if name == GREATEST_NAME {
-            return Scan::Wrong(at);
+            return Took::Wrong(at);
         }
-        let sign = mark(text, next);
-        let Piece::Mark(start) = sign else {
-            return refused(text, sign);
+        let Piece::Mark(start) = mark(text, next) else {
+            return Took::Wrong(at);
         };
         here = start;
         least = name + 1;

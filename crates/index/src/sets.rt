@@ -12,7 +12,6 @@ use crate::moves::splice;
 use crate::places::first_of;
 use crate::places::place_of;
 use crate::places::size_at;
-use crate::scanning::Scan;
 use crate::scanning::scan_text;
 use crate::taking::fill;
 use crate::writing::put_set;
@@ -85,8 +84,9 @@ pub fn read_set(block: &mut [u8], kind: u64, key: u64, text: &[u8]) -> Took
     }
     let kind = kind_of(kind);
     let key = key as usize;
-    let Scan::Records(n) = scan_text(text, kind) else {
-        return Took::Refused(9);
+    let scanned = scan_text(text, kind);
+    let Took::Set(n) = scanned else {
+        return scanned;
     };
     let first = place_of(block, kind, NAMES * key);
     let old = place_of(block, kind, NAMES * (key + 1)) - first;

@@ -4,11 +4,11 @@ use crate::HEADER;
 use crate::Kind;
 use crate::LETTER_COUNT;
 use crate::RECORD;
+use crate::Took;
 use crate::entries::take_record;
 use crate::numbers::put_number;
 use crate::reading::Cursor;
 use crate::reading::Piece;
-use crate::scanning::Scan;
 ghost use mathlib.Core.Path.{_≡_};
 ghost use mathlib.Core.List.{List};
 ghost use Prim.Native.Nat.{ℕ, _+_, _<_, _≤_};
@@ -44,7 +44,7 @@ pub(crate) fn put_entry(
 // Writes the n records of a text that is of a set, from record `first` of a block on.
 pub(crate) fn fill(b: &mut [u8], first: usize, text: &[u8], kind: Kind, key: usize, n: usize)
     requires { ⌜ (key < 65536) × (place (first + n) ≤ length (now b)) ⌝ }
-    requires { ⌜ Scanned kind (now text) (Scan.Records n) ⌝ }
+    requires { ⌜ Scanned kind (now text) (Took.Set n) ⌝ }
     ensures { λ _. ⌜ ((es : List Entry) → Writes kind es (now (text .entry)) → Filled key first es n (now (b .entry)) (now (b .exit))) ⌝ }
 {
     let mut counts = [0usize; LETTER_COUNT];

@@ -1,7 +1,6 @@
 -- How long the lines of all sets can be.
 use Prim.Native.Nat.{ℕ, zero, suc, _+_, _*_, _<_, _≤_}
 use mathlib.Core.Path.{_≡_, refl}
-use mathlib.Core.Bool.{false}
 use mathlib.Core.List.{List, [], _∷_}
 use native.Mathlib.Decide.{ℕ-discrete}
 use native.Mathlib.Omega.{arith}
@@ -14,6 +13,7 @@ use Rattle.index.specs.Text.{Entry, textOf, setFrom, setOf}
 use Rattle.index.specs.Longest.{fieldDigits, longestRecord}
 use Rattle.index.proofs.Digits.{ten}
 use Rattle.index.proofs.Decimal.{decimal-five}
+use Rattle.index.proofs.IsSet.{is-set}
 use Rattle.index.proofs.TextBound.{text-bound, few-records}
 use Rattle.standing.specs.Printed.{lineOf, setLine, setLines, blockLines}
 use Rattle.standing.specs.Room.{Usable, longestLine, longestSets}
@@ -75,7 +75,7 @@ module _ {b : List ℕ} (u : Usable b) where
       omega (
         arith,
         length-append (setLine b kind x) (setLines b kind (x + 1) m),
-        line-bound kind x (setOf b kind x) (omega arith) (text-bound b (u .good .bytes) false x (from b kind) (size b kind)),
+        line-bound kind x (setOf b kind x) (omega arith) (text-bound (is-set (u .good) kind x)),
         lines-bound kind (x + 1) m (omega arith),
       )
 

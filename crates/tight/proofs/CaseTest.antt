@@ -21,7 +21,7 @@ Test (Case.rights b u o mask) = rightsTest b u mask o ≡ true
 Test (Case.everywhere b u mask) = everywhereTest b u mask ≡ true
 Test (Case.text b kind x t n) =
     (setTest b kind x ≡ true) × (textOf (setOf b (kindOf kind) x) ≡ t) × (length (setOf b (kindOf kind) x) ≡ n)
-Test (Case.wrong t) = wrongTest t ≡ true
+Test (Case.wrong t place) = wrongTest t place ≡ true
 Test Case.empty = Unit {0}
 Test (Case.accepted b m b′) = (ds : List (List ℕ)) × (messageTest b m ds ≡ true) × (lastOf b ds ≡ b′)
 Test (Case.refused b m n) =
@@ -33,7 +33,7 @@ means : (c : Case) → Test c → Shows c
 means (Case.rights b u o mask) e = rights-test b u mask o e
 means (Case.everywhere b u mask) e = everywhere-test b u mask e
 means (Case.text b kind x t n) e = text-test b kind x t n (e .0) (e .1) (e .2)
-means (Case.wrong t) e = wrong-test t e
+means (Case.wrong t place) e = wrong-test t place e
 means Case.empty e = empty-text
 means (Case.accepted b m b′) e = subst (λ (d : List ℕ). Message b m (0, d)) (e .2) (message-test b m (e .0) (e .1))
 means (Case.refused b m n) e =

@@ -11,9 +11,9 @@ use Rattle.index.specs.Block.{number, countAt, countFrom, count, room, Sized, n
 use Rattle.index.specs.Message.{IsKind, kindOf, flags, halfAt, previous, new, changes, ownCount, WellFormed, Named, Masked, Carried}
 use Rattle.index.specs.Text.{Writes, digitsOf, decimal, pieceOf, piecesOf, entryText, textOf, countsAt, setFrom, setOf}
 use Rattle.index.specs.Reading.{digit, reaches, readDigits, readNumber, readCount, readLetter, readCounts, readMark, readRecord, readMore, readRecords, parse}
-use Rattle.index.specs.Calls.{blockNeeds, makeNeeds, messageNeeds, setNeeds, writeNeeds, readNeeds, Makes, Message, WritesSet, ReadsSet, listNeeds, CarriesOut}
+use Rattle.index.specs.Calls.{blockNeeds, makeNeeds, messageNeeds, setNeeds, writeNeeds, Makes, Message, WritesSet, ReadsSet, listNeeds, CarriesOut}
 use Rattle.index.proofs.Firsts.{All, first-all, passed-first, refuses, answers-first, first-passed}
-use Rattle.index.proofs.ReadSets.{parse-sound}
+use Rattle.index.proofs.SetReader.{parse-sound}
 use Rattle.index.proofs.GoodTest.{good-test}
 use Rattle.rights.specs.Questions.{questionNeeds, Full, Short}
 use Rattle.tight.specs.Blocks.{zeros, halfBytes, giving, moving, nothing, reads, give, withdraw}
@@ -45,10 +45,10 @@ module _ (b : List ℕ) (r : ℕ) (above : 0 < r) where
   list-gives cs a = (b, cs, b, refuses _ _ (listNeeds b cs) not-zero a)
 
   sets-give : (kind x : ℕ) → Answers (setNeeds b kind x) r → WriteGives r × ReadGives r
-  unfolding WritesSet writeNeeds ReadsSet readNeeds
+  unfolding WritesSet writeNeeds ReadsSet
   sets-give kind x a = (
     (b, kind, x, [], (0, []), refuses _ _ (writeNeeds b kind x []) not-zero (first (setNeeds b kind x) _ a)),
-    (b, kind, x, [], (0, b), refuses _ _ (readNeeds b kind x []) not-zero (first (setNeeds b kind x) _ a)),
+    (b, kind, x, [], (0, b), refuses _ _ (setNeeds b kind x) not-zero a),
   )
 
   questions-give : (u o request : ℕ) → Answers (questionNeeds b u o request) r → QuestionsGive r
@@ -216,10 +216,10 @@ unfolding letters lettersOf digit reaches readDigits readNumber readCount readLe
 set-written = parse-sound Permission (49 ∷ 59 ∷ 82 ∷ []) refl
 
 no-room : ReadsSet (reads 1) 2 10 (49 ∷ 59 ∷ 82 ∷ []) (8, 0, reads 1)
-unfolding ReadsSet readNeeds number kindOf room setFrom setOf
+unfolding ReadsSet number kindOf room setFrom setOf
 no-room =
-    passed-first _ (setNeeds (reads 1) 2 10) _ _ _ (set-passes 10 (omega arith))
-    (inr ((_, set-written), inl ((λ fits. omega (arith, fits _ set-written)), refl)))
+    first-all _ _ _ (setNeeds (reads 1) 2 10) (set-passes 10 (omega arith))
+    (inr (_, set-written, inl ((λ fits. omega (arith, fits)), refl)))
 
 -- ---- each number
 
@@ -278,7 +278,7 @@ read-numbers =
       1,
       9,
       _,
-      (0, nothing),
+      (4, nothing),
       texts-right .1 .0 nothing 1 9 (omega arith, omega arith) (good-test nothing refl) (omega arith, omega arith) (omega arith),
     )
     and tt

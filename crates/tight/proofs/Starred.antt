@@ -9,7 +9,7 @@ use Rattle.index.specs.Message.{kindOf, kindNumber, flags, halfAt, previous, ne
 use Rattle.index.specs.Text.{digitsOf, decimal, pieceOf, piecesOf, entryText, textOf, countsAt, setFrom, setOf}
 use Rattle.index.specs.Reading.{digit, reaches, readDigits, readNumber, readCount, readLetter, readCounts, readMark, readRecord, readMore, readRecords, parse}
 use Rattle.tight.specs.Blocks.{once, block, nothing, reads}
-use Rattle.tight.specs.Examples.{Case, Shows, granted, masks, texts, chains, appointments, limits, cases}
+use Rattle.tight.specs.Examples.{Case, Shows, granted, masks, texts, places, chains, appointments, limits, cases}
 use Rattle.tight.proofs.CaseTest.{all-mean}
 
 -- The tests of one case after the other.
@@ -26,6 +26,10 @@ unfolding number countAt letters lettersOf kindOf digitsOf decimal pieceOf piece
 texts-right =
     all-mean texts
     ((refl, refl, refl) and refl and refl and refl and refl and refl and refl and tt and (refl, refl, refl) and tt)
+
+places-right : Each Shows places
+unfolding letters lettersOf digit reaches readDigits readNumber readCount readLetter readCounts readMark readRecord readMore readRecords parse
+places-right = all-mean places (refl and refl and refl and refl and tt)
 
 chains-right : Each Shows chains
 unfolding number countAt lettersOf
@@ -63,5 +67,6 @@ pub table : Each Shows cases
 table =
     let last = joined appointments limits appointments-right limits-right in
     let later = joined chains (appointments ++ limits) chains-right last in
-    joined masks (texts ++ (chains ++ (appointments ++ limits))) masks-right
-    (joined texts (chains ++ (appointments ++ limits)) texts-right later)
+    let wrong = joined places (chains ++ (appointments ++ limits)) places-right later in
+    joined masks (texts ++ (places ++ (chains ++ (appointments ++ limits)))) masks-right
+    (joined texts (places ++ (chains ++ (appointments ++ limits))) texts-right wrong)

@@ -1,12 +1,12 @@
--- Tests of texts that compute: the text of a set, and a text of none; and what holds of the empty text on every block.
-use Prim.Native.Nat.{ℕ, _+_, _<_, _≤_}
-use mathlib.Core.Path.{_≡_, refl, sym, ap, subst, _∙_}
+-- Tests of texts that compute: the text of a set, and a text of none with its place; and what holds of the empty text on every block.
+use Prim.Native.Nat.{ℕ, _-_, _<_, _≤_}
+use mathlib.Core.Path.{_≡_, refl, sym, ap, subst}
 use mathlib.Core.Bool.{Bool, true, false, _&&_}
 use mathlib.Core.List.{List, [], _++_}
 use mathlib.Core.Logic.{inl, inr}
 use native.Mathlib.Omega.{arith}
-use borrow.Author.Tests.{ltb-true, leb-true}
-use lib.Dec.{ltb, leb}
+use borrow.Author.Tests.{ltb-true, leb-true, eqb-true}
+use lib.Dec.{eqb, ltb, leb}
 use lib.ListN.{length, drop}
 use Rattle.index.specs.declared.Kind.{Kind}
 use Rattle.index.specs.declared.Kind.the-variants.{Membership, Permission, Filter}
@@ -14,7 +14,8 @@ use Rattle.index.specs.Letters.{letterCount}
 use Rattle.index.specs.Block.{IsName, Sized, Good, records, room, count, nameCount}
 use Rattle.index.specs.Message.{IsKind, kindOf}
 use Rattle.index.specs.Text.{Entry, textOf, setOf, IsSet, Writes, countIn, Replaced}
-use Rattle.index.specs.Calls.{blockNeeds, setNeeds, writeNeeds, readNeeds, Read, WritesSet, ReadsSet}
+use Rattle.index.specs.Beginning.{Place}
+use Rattle.index.specs.Calls.{blockNeeds, setNeeds, writeNeeds, Read, OfNone, ReadsText, WritesSet, ReadsSet}
 use Rattle.index.specs.Reading.{Parsed, parse}
 use Rattle.index.specs.Reading.Parsed.{got, wrong}
 use Rattle.index.proofs.Tests.{both}
@@ -22,6 +23,7 @@ use Rattle.index.proofs.Firsts.{first-sure}
 use Rattle.index.proofs.IsSet.{is-set}
 use Rattle.index.proofs.SetCounts.{set-counts}
 use Rattle.index.proofs.TextOnce.{writes-once, parse-wrong}
+use Rattle.index.proofs.Placing.{wrong-place}
 use Rattle.tight.specs.Examples.{Anywhere}
 use Rattle.tight.proofs.BlockTest.{blockTest, block-test}
 
@@ -76,14 +78,11 @@ module _ (b : List ℕ) (kind x : ℕ) (h : Set b kind x) where
       }
 
   reads-own : ReadsSet b kind x (textOf set) (0, length set, b)
-  unfolding ReadsSet readNeeds setNeeds blockNeeds
+  unfolding ReadsSet setNeeds blockNeeds
   reads-own =
-      let room : (es : List Entry) → Writes (kindOf kind) es (textOf set) → records b + length es ≤ room b + length set =
-      λ es w.
-      omega (arith, fits (h .good), ap length (writes-once (kindOf kind) (textOf set) es set w written)) in
       inr (
         h .sized,
-        inr (h .good, inr (h .is-kind, inr (h .named, inr ((set, written), inr (room, (set, written, refl, refl, own)))))),
+        inr (h .good, inr (h .is-kind, inr (h .named, inr (set, written, inr (omega (arith, fits (h .good)), (refl, refl, own)))))),
       )
 
 pub text-test : (b : List ℕ) (kind x : ℕ) (t : List ℕ) (n : ℕ) → setTest b kind x ≡ true
@@ -98,37 +97,41 @@ text-test b kind x t n e p q =
           (subst (λ (t : List ℕ). ReadsSet b kind x t (0, length (setOf b (kindOf kind) x), b)) p (reads-own b kind x h)),
     )
 
--- ---- a text of no set
+-- ---- a text of no set, and its place
 
-abbrev isWrong : Parsed (List Entry) → Bool
-isWrong (got es t) = false
-isWrong (wrong t) = true
+abbrev isWrong : List ℕ → ℕ → Parsed (List Entry) → Bool
+isWrong t place (got es s) = false
+isWrong t place (wrong s) = eqb (length t - length s) place
 
-abbrev pub wrongTest : List ℕ → Bool
-wrongTest t = isWrong (parse Membership t) && (isWrong (parse Permission t) && isWrong (parse Filter t))
+abbrev wrongFor : List ℕ → ℕ → Kind → Bool
+wrongFor t place kind = isWrong t place (parse kind t)
 
-is-wrong : (kind : Kind) (t : List ℕ) → isWrong (parse kind t) ≡ true → (es : List Entry) → Writes kind es t → ⊥
-is-wrong kind t = go (parse kind t) refl
+abbrev pub wrongTest : List ℕ → ℕ → Bool
+wrongTest t place = wrongFor t place Membership && (wrongFor t place Permission && wrongFor t place Filter)
+
+wrong-for : (b : List ℕ) (kind : Kind) (t : List ℕ) (place : ℕ) → wrongFor t place kind ≡ true → OfNone b kind t (9, place, b)
+wrong-for b kind t place = go (parse kind t) refl
   where
-    go : (r : Parsed (List Entry)) → parse kind t ≡ r → isWrong r ≡ true → (es : List Entry) → Writes kind es t → ⊥
+    go : (r : Parsed (List Entry)) → parse kind t ≡ r → isWrong t place r ≡ true → OfNone b kind t (9, place, b)
     go (got fs s) p e = let z : _≡_ {A = ℕ} 0 1 = cc in absurd (omega arith)
-    go (wrong s) p e = parse-wrong kind t p
+    go (wrong s) p e =
+        (parse-wrong kind t p, refl, subst (Place kind t) (eqb-true (length t - length s) place e) (wrong-place kind t p), refl)
 
-no-set : (t : List ℕ) → wrongTest t ≡ true → (kind : Kind) (es : List Entry) → Writes kind es t → ⊥
-no-set t e kind = is-wrong kind t (go kind)
+each-kind : (t : List ℕ) (place : ℕ) → wrongTest t place ≡ true → (kind : Kind) → wrongFor t place kind ≡ true
+each-kind t place e = go
   where
-    p : (isWrong (parse Membership t) ≡ true) × (isWrong (parse Permission t) && isWrong (parse Filter t) ≡ true)
-    p = both (isWrong (parse Membership t)) _ e
+    p : (wrongFor t place Membership ≡ true) × (wrongFor t place Permission && wrongFor t place Filter ≡ true)
+    p = both (wrongFor t place Membership) _ e
 
-    go : (K : Kind) → isWrong (parse K t) ≡ true
+    go : (kind : Kind) → wrongFor t place kind ≡ true
     go Membership = p .0
-    go Permission = both (isWrong (parse Permission t)) _ (p .1) .0
-    go Filter = both (isWrong (parse Permission t)) _ (p .1) .1
+    go Permission = both (wrongFor t place Permission) _ (p .1) .0
+    go Filter = both (wrongFor t place Permission) _ (p .1) .1
 
-pub wrong-test : (t : List ℕ) → wrongTest t ≡ true → Anywhere (λ b kind x. ReadsSet b kind x t (9, 0, b))
-unfolding ReadsSet readNeeds setNeeds blockNeeds
-wrong-test t e b kind x s g k n =
-    inr (s, inr (g, inr (k, inr (n, inl ((λ w. no-set t e (kindOf kind) (w .0) (w .1)), refl)))))
+pub wrong-test : (t : List ℕ) (place : ℕ) → wrongTest t place ≡ true → Anywhere (λ b kind x. ReadsSet b kind x t (9, place, b))
+unfolding ReadsSet setNeeds blockNeeds
+wrong-test t place e b kind x s g k n =
+    inr (s, inr (g, inr (k, inr (n, inl (wrong-for b (kindOf kind) t place (each-kind t place e (kindOf kind)))))))
 
 -- ---- the empty text, which is the empty set's
 
@@ -139,20 +142,20 @@ none kind = (IsSet.empty, refl)
 no-other : (kind : Kind) (es : List Entry) → Writes kind es [] → es ≡ []
 no-other kind es w = writes-once kind [] es [] w (none kind)
 
-empty-read : Anywhere (λ b kind x. (o : ℕ × ℕ × List ℕ) → ReadsSet b kind x [] o → Read b kind x [] o)
-unfolding ReadsSet readNeeds setNeeds blockNeeds
-empty-read b kind x s g k n o r =
-    first-sure (λ n. (n, 0, b)) (Read b kind x []) o (readNeeds b kind x [])
-    (s, (g, (k, (n, (([], none (kindOf kind)), ((λ es w. omega (arith, fits g, ap length (no-other (kindOf kind) es w))), tt)))))) r
+empty-read : Anywhere (λ b kind x. (o : ℕ × ℕ × List ℕ) → ReadsSet b kind x [] o → Read b (kindOf kind) x [] o)
+unfolding ReadsSet setNeeds blockNeeds
+empty-read b kind x s g k n o r = go (first-sure (λ n. (n, 0, b)) (ReadsText b (kindOf kind) x []) o (setNeeds b kind x) (s, (g, (k, (n, tt)))) r)
+  where
+    go : ReadsText b (kindOf kind) x [] o → Read b (kindOf kind) x [] o
+    go (inl f) = absurd (f .0 [] (none (kindOf kind)))
+    go (inr (es, w, inl f)) = absurd (f .0 (omega (arith, fits g, ap length (no-other (kindOf kind) es w))))
+    go (inr (es, w, inr f)) = subst (λ (es : List Entry). Read b (kindOf kind) x es o) (no-other (kindOf kind) es w) (f .1)
 
 pub empty-text : Anywhere (λ b kind x. (o : ℕ × ℕ × List ℕ) → ReadsSet b kind x [] o → (o .0 ≡ 0) × (o .1 ≡ 0))
-empty-text b kind x s g k n o r =
-    let a = empty-read b kind x s g k n o r in (a .2, a .3 ∙ ap length (no-other (kindOf kind) (a .0) (a .1)))
+empty-text b kind x s g k n o r = let a = empty-read b kind x s g k n o r in (a .0, a .1)
 
 -- Read in, it leaves no count of the key.
 pub emptied : Anywhere (λ b kind x. (o : ℕ × ℕ × List ℕ) → ReadsSet b kind x [] o
     → (y k : ℕ) → k < letterCount → count (o .2) (kindOf kind) x y k ≡ 0)
 unfolding countIn
-emptied b kind x s g k n o r y l h =
-    let a = empty-read b kind x s g k n o r in
-    a .4 .set y l h ∙ ap (λ (es : List Entry). countIn es y l) (no-other (kindOf kind) (a .0) (a .1))
+emptied b kind x s g k n o r y l h = empty-read b kind x s g k n o r .2 .set y l h

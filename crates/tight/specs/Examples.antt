@@ -1,4 +1,5 @@
--- 01, "Examples to hold it to": the starred ones, as one table, and one of M-102. A case says what it says by the promises of the calls.
+-- 01, "Examples to hold it to": the starred ones, as one table, with some of M-101 and M-102. A case says what it says by the
+-- promises of the calls.
 use Prim.Native.Nat.{ℕ, _≤_}
 use mathlib.Core.Path.{_≡_}
 use mathlib.Core.List.{List, [], _∷_, _++_}
@@ -17,8 +18,8 @@ pub data Case : Type 0 where
   everywhere : (block : List ℕ) (user mask : ℕ) → Case
   -- the set of the kind and key in the block has n records and is written so, and the text is read back
   text : (block : List ℕ) (kind key : ℕ) (text : List ℕ) (n : ℕ) → Case
-  -- the text is refused with 9
-  wrong : (text : List ℕ) → Case
+  -- the text is refused with 9, and this is its place
+  wrong : (text : List ℕ) (place : ℕ) → Case
   -- the empty text is accepted, with 0 records
   empty : Case
   -- the message is accepted, and the block is then this
@@ -36,7 +37,7 @@ Shows (Case.everywhere b u mask) = (o : ℕ) → IsName o → Full b u o allRigh
 Shows (Case.text b kind x t n) =
     ((out : List ℕ) → length t ≤ length out → WritesSet b kind x out (0, length t, t ++ drop (length t) out))
     × ReadsSet b kind x t (0, n, b)
-Shows (Case.wrong t) = Anywhere (λ b kind x. ReadsSet b kind x t (9, 0, b))
+Shows (Case.wrong t place) = Anywhere (λ b kind x. ReadsSet b kind x t (9, place, b))
 Shows Case.empty =
     Anywhere (λ b kind x. (o : ℕ × ℕ × List ℕ) → ReadsSet b kind x [] o → (o .0 ≡ 0) × (o .1 ≡ 0))
 Shows (Case.accepted b m b′) = Message b m (0, b′)
@@ -66,16 +67,26 @@ masks =
 abbrev pub texts : List Case
 texts =
     Case.text twoRecords 2 7 twoText 2
-    -- "Texts `3;M1`, `03;M`, `3;RM`, `3;M;`, `3;M0`, `3;`: 9 each. Empty text: accepted, 0 records." The byte of 0 is 48, of 1 49,
-    -- of 3 51, of `;` 59, of M 77 and of R 82.
-    ∷ Case.wrong (51 ∷ 59 ∷ 77 ∷ 49 ∷ [])
-    ∷ Case.wrong (48 ∷ 51 ∷ 59 ∷ 77 ∷ [])
-    ∷ Case.wrong (51 ∷ 59 ∷ 82 ∷ 77 ∷ [])
-    ∷ Case.wrong (51 ∷ 59 ∷ 77 ∷ 59 ∷ [])
-    ∷ Case.wrong (51 ∷ 59 ∷ 77 ∷ 48 ∷ [])
-    ∷ Case.wrong (51 ∷ 59 ∷ [])
+    -- "Texts `3;M1`, `03;M`, `3;RM`, `3;M;`, `3;M0`, `3;`: 9 each. Empty text: accepted, 0 records." M-101: "For `3;M0` that is 3;
+    -- for `3;M1` it is 4, since `3;M10` would do." The byte of 0 is 48, of 1 49, of 3 51, of `;` 59, of M 77 and of R 82.
+    ∷ Case.wrong (51 ∷ 59 ∷ 77 ∷ 49 ∷ []) 4
+    ∷ Case.wrong (48 ∷ 51 ∷ 59 ∷ 77 ∷ []) 1
+    ∷ Case.wrong (51 ∷ 59 ∷ 82 ∷ 77 ∷ []) 3
+    ∷ Case.wrong (51 ∷ 59 ∷ 77 ∷ 59 ∷ []) 4
+    ∷ Case.wrong (51 ∷ 59 ∷ 77 ∷ 48 ∷ []) 3
+    ∷ Case.wrong (51 ∷ 59 ∷ []) 2
     ∷ Case.empty
     ∷ Case.text twoRecords 1 7 [] 0 ∷ []
+
+abbrev pub places : List Case
+places =
+    -- M-101: "the length of its longest beginning that is also a beginning of some acceptable text of that kind". A count is at
+    -- most 65,535, so `3;M65536` is wrong at 7; 1023 is the last id, so `1023;M;` is wrong at 6; ids rise, so `399;M;3` is wrong
+    -- at 6, for no id above 399 begins with 3; but `1;M;1` is not before its end, since `1;M;10;M` would do.
+    Case.wrong (51 ∷ 59 ∷ 77 ∷ 54 ∷ 53 ∷ 53 ∷ 51 ∷ 54 ∷ []) 7
+    ∷ Case.wrong (49 ∷ 48 ∷ 50 ∷ 51 ∷ 59 ∷ 77 ∷ 59 ∷ []) 6
+    ∷ Case.wrong (51 ∷ 57 ∷ 57 ∷ 59 ∷ 77 ∷ 59 ∷ 51 ∷ []) 6
+    ∷ Case.wrong (49 ∷ 59 ∷ 77 ∷ 59 ∷ 49 ∷ []) 5 ∷ []
 
 abbrev pub chains : List Case
 chains =
@@ -113,6 +124,6 @@ limits =
     ∷ Case.accepted (reads 1) (moving 2 (halfBytes 9 1 2) (halfBytes 10 1 2)) (block [] (once 10 1 2 ∷ []) [] 0)
     ∷ Case.refused (reads 1) (giving 2 10 1 2) 8 ∷ []
 
--- All of them, in 01's order, with what M-102 adds.
+-- All of them, in 01's order, with what M-101 and M-102 add.
 abbrev pub cases : List Case
-cases = masks ++ (texts ++ (chains ++ (appointments ++ limits)))
+cases = masks ++ (texts ++ (places ++ (chains ++ (appointments ++ limits))))

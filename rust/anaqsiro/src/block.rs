@@ -148,7 +148,21 @@ impl Block {
         }
     }
 
-    /// Replaces the records of one kind and key by those of a text, and says how many they are.
+    /// Replaces the records of one kind and key by those of a text, and says how many they are. A text that is of no set of
+    /// that kind is refused with its place:
+    ///
+    /// ```
+    /// use anaqsiro::{Block, Kind, Refusal};
+    ///
+    /// let mut block = Block::with_room(8)?;
+    /// let text = "1;U;4;UR2;12;R";
+    /// let Err(Refusal::Text { place }) = block.read_set(Kind::Permission, 9, text) else { panic!("the text is wrong") };
+    /// assert_eq!(&text[..place], "1;U;4;U");
+    /// let shown = format!("{text}\n{:place$}^", "");
+    /// assert_eq!(shown, "1;U;4;UR2;12;R\n       ^");
+    /// assert_eq!(block.read_set(Kind::Permission, 9, "1;U;4;RU2;12;R"), Ok(3));
+    /// # Ok::<(), anaqsiro::Refusal>(())
+    /// ```
     pub fn read_set(&mut self, kind: Kind, key: Name, text: impl AsRef<[u8]>) -> Result<usize, Refusal> {
         let (kind, text) = (kind.number().into(), text.as_ref());
         // SAFETY: each pointer and length are those of one slice; the borrows keep the two apart.

@@ -23,7 +23,12 @@ pub enum Refusal {
     /// 8: after taking away, the records do not fit.
     NoRoom,
     /// 9: not the text of any set of that kind.
-    Text,
+    Text {
+        /// The length of the text's longest beginning that is also a beginning of some acceptable text of that kind, whatever the
+        /// room. The byte after it is the first wrong one; where there is none, the text ends too early. All bytes before it are
+        /// ASCII, so that a `str` can be cut there.
+        place: usize,
+    },
     /// 10: text longer than the output buffer.
     TextLong,
     /// A number that this crate has no name for: the archive is newer than the crate.
@@ -31,24 +36,24 @@ pub enum Refusal {
 }
 
 impl Refusal {
-    /// Each refusal that has a name, in the order of the numbers, from 1 on.
-    pub const NAMED: &'static [Refusal] = &[
-        Refusal::BlockLength,
-        Refusal::BlockNotGood,
-        Refusal::Form,
-        Refusal::Name,
-        Refusal::Mask,
-        Refusal::NothingToTake,
-        Refusal::CountFull,
-        Refusal::NoRoom,
-        Refusal::Text,
-        Refusal::TextLong,
-    ];
-
-    /// The refusal of a number; none for 0, which is no refusal.
-    pub fn from_number(number: u32) -> Option<Refusal> {
-        let place = number.checked_sub(1)? as usize;
-        Some(Self::NAMED.get(place).copied().unwrap_or(Refusal::Unknown(number)))
+    /// The refusal of an answer as the [C interface](crate::raw) gives it, the number times 2^32 plus a value; none where the
+    /// number is 0. It takes the whole answer, since the number alone does not say the place of a text.
+    pub fn from_answer(answer: u64) -> Option<Refusal> {
+        let (number, value) = ((answer >> 32) as u32, answer as u32);
+        Some(match number {
+            0 => return None,
+            1 => Refusal::BlockLength,
+            2 => Refusal::BlockNotGood,
+            3 => Refusal::Form,
+            4 => Refusal::Name,
+            5 => Refusal::Mask,
+            6 => Refusal::NothingToTake,
+            7 => Refusal::CountFull,
+            8 => Refusal::NoRoom,
+            9 => Refusal::Text { place: value as usize },
+            10 => Refusal::TextLong,
+            _ => Refusal::Unknown(number),
+        })
     }
 
     /// The number of the refusal.
@@ -62,14 +67,14 @@ impl Refusal {
             Refusal::NothingToTake => 6,
             Refusal::CountFull => 7,
             Refusal::NoRoom => 8,
-            Refusal::Text => 9,
+            Refusal::Text { .. } => 9,
             Refusal::TextLong => 10,
             Refusal::Unknown(number) => number,
         }
     }
 }
 
-/// The number, and when it is given, in the words of the rules.
+/// The number, and when it is given, in the words of the rules; then the place of a text.
 impl fmt::Display for Refusal {
     fn fmt(&self, f: &mut fmt::Formatter<'_>) -> fmt::Result {
         let why = match self {
@@ -81,11 +86,16 @@ impl fmt::Display for Refusal {
             Refusal::NothingToTake => "a letter of the previous half has count 0 or no record",
             Refusal::CountFull => "after taking away, a letter to add stands at 65,535",
             Refusal::NoRoom => "after taking away (or removing the old set), the records do not fit",
-            Refusal::Text => "not the text of any set of that kind",
+            Refusal::Text { .. } => "not the text of any set of that kind",
             Refusal::TextLong => "text longer than the output buffer",
             Refusal::Unknown(_) => "not a number of this version",
         };
-        write!(f, "refused with {}: {why}", self.number())
+        write!(f, "refused with {}: {why}", self.number())?;
+        match self {
+            Refusal::Text { place: 1 } => write!(f, ", wrong after 1 byte"),
+            Refusal::Text { place } => write!(f, ", wrong after {place} bytes"),
+            _ => Ok(()),
+        }
     }
 }
 
@@ -93,7 +103,7 @@ impl std::error::Error for Refusal {}
 
 /// An answer of a call taken apart: the value, or the refusal.
 pub(crate) fn answer(packed: u64) -> Result<u32, Refusal> {
-    Refusal::from_number((packed >> 32) as u32).map_or(Ok(packed as u32), Err)
+    Refusal::from_answer(packed).map_or(Ok(packed as u32), Err)
 }
 
 #[cfg(test)]
@@ -105,6 +115,8 @@ mod tests {
         assert_eq!(answer(7), Ok(7));
         assert_eq!(answer(u64::from(u32::MAX)), Ok(u32::MAX));
         assert_eq!(answer(8 << 32), Err(Refusal::NoRoom));
+        assert_eq!(answer(9 << 32), Err(Refusal::Text { place: 0 }));
+        assert_eq!(answer(9 << 32 | 54_184), Err(Refusal::Text { place: 54_184 }));
         assert_eq!(answer(10 << 32), Err(Refusal::TextLong));
         assert_eq!(answer(11 << 32 | 5), Err(Refusal::Unknown(11)));
         assert_eq!(answer(u64::MAX), Err(Refusal::Unknown(u32::MAX)));

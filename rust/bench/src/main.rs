@@ -252,7 +252,7 @@ fn bound(programs: &Programs) {
     });
 }
 
-/// Reading a set of 1,000 records into a block with as many records behind it.
+/// Reading a set of 1,000 records into a block with as many records behind it, or refusing its text, and writing it.
 fn large_set(programs: &Programs) {
     let text = (0..1000).map(|id| format!("{id};MRU2")).collect::<Vec<_>>().join(";").into_bytes();
     programs.title("A set of 1,000 records, with 1,000 records behind it");
@@ -264,6 +264,10 @@ fn large_set(programs: &Programs) {
         b
     });
     in_and_out("reading it in, and taking it out", &mut runners, 5, &text);
+    let wrong = [&text[..], b";"].concat();
+    row("refusing it for a semicolon at its end", &mut runners, |run, _| {
+        black_box(run.library.read(&mut run.block, PERMISSION.into(), 5, &wrong));
+    });
     for run in &mut runners {
         assert_eq!(run.library.read(&mut run.block, PERMISSION.into(), 5, &text), 1000);
     }

@@ -380,13 +380,38 @@ fn number(text: &[u8], at: &mut usize, most: usize) -> Option<usize> {
     fair.then_some(n)
 }
 
-/// Reads the set of a text, handing each record's id and counts on; how many there are, or None where it is of no set.
-fn scan(text: &[u8], kind: usize, mut each: impl FnMut(usize, usize, &[usize; LETTERS.len()])) -> Option<usize> {
+/// Whether the number, or one that goes on from its digits, is from `least` to `most`.
+fn begins(n: usize, least: usize, most: usize) -> bool {
+    n <= most && (n >= least || (n > 0 && (0..10).any(|digit| begins(10 * n + digit, least, most))))
+}
+
+/// The end of the digits from `at` on that a number from `least` to `most` begins with.
+#[cold]
+fn begun(text: &[u8], mut at: usize, least: usize, most: usize) -> usize {
+    let (start, mut n) = (at, 0);
+    while let Some(digit) = text.get(at).filter(|d| d.is_ascii_digit() && (at == start || n > 0)) {
+        n = 10 * n + usize::from(digit - b'0');
+        if !begins(n, least, most) {
+            break;
+        }
+        at += 1;
+    }
+    at
+}
+
+/// Reads a number from `least` to `most`; where there is none, the place up to which one may stand there.
+fn bounded(text: &[u8], at: &mut usize, least: usize, most: usize) -> Result<usize, usize> {
+    let start = *at;
+    number(text, at, most).filter(|&n| n >= least).ok_or_else(|| begun(text, start, least, most))
+}
+
+/// Reads the set of a text, handing each record's id and counts on; how many there are, or the place where it is of no set.
+fn scan(text: &[u8], kind: usize, mut each: impl FnMut(usize, usize, &[usize; LETTERS.len()])) -> Result<usize, usize> {
     let (mut at, mut records, mut least) = (0, 0, 0);
     while at < text.len() || records > 0 {
-        let id = number(text, &mut at, NAMES - 1)?;
-        if id < least || text.get(at) != Some(&b';') {
-            return None;
+        let id = bounded(text, &mut at, least, NAMES - 1)?;
+        if text.get(at) != Some(&b';') {
+            return Err(at);
         }
         at += 1;
         let mut counts = [0; LETTERS.len()];
@@ -396,25 +421,25 @@ fn scan(text: &[u8], kind: usize, mut each: impl FnMut(usize, usize, &[usize; LE
                 at += 1;
                 counts[k] = 1;
                 if text.get(at).is_some_and(u8::is_ascii_digit) {
-                    counts[k] = number(text, &mut at, MOST).filter(|&n| n > 1)?;
+                    counts[k] = bounded(text, &mut at, 2, MOST)?;
                 }
             }
         }
         if at == start {
-            return None;
+            return Err(at);
         }
         each(records, id, &counts);
         records += 1;
         least = id + 1;
         if at == text.len() {
-            return Some(records);
+            return Ok(records);
         }
-        if text[at] != b';' {
-            return None;
+        if text[at] != b';' || least == NAMES {
+            return Err(at);
         }
         at += 1;
     }
-    Some(0)
+    Ok(0)
 }
 
 pub fn read(b: &mut [u8], kind: u64, key: u64, text: &[u8]) -> (u32, u32) {
@@ -422,12 +447,15 @@ pub fn read(b: &mut [u8], kind: u64, key: u64, text: &[u8]) -> (u32, u32) {
         Err(number) => return (number, 0),
         Ok(found) => found,
     };
-    let Some(records) = scan(text, kind, |_, _, _| ()) else { return (9, 0) };
+    let records = match scan(text, kind, |_, _, _| ()) {
+        Err(at) => return (9, at as u32),
+        Ok(records) => records,
+    };
     if bounds(b)[3] - (hi - lo) + records > (b.len() - HEADER) / RECORD {
         return (8, 0);
     }
     shift(b, kind, hi, lo + records);
-    scan(text, kind, |n, id, counts| {
+    let _ = scan(text, kind, |n, id, counts| {
         let i = lo + n;
         put_word(b, place(i), key as usize);
         put_word(b, place(i) + 2, id);

@@ -2,7 +2,8 @@
 //! guard bytes around each buffer. A run keeps count of what it met, and says what it should have met and did not.
 
 use crate::gen::{self, Rng};
-use crate::{binding, carries, denied, granted, letters, meets, word, Index, ALL, CHAIN, COUNTS, HEADER, KINDS, LAST, LETTERS, M, NAMES, RECORD};
+use crate::{binding, carries, denied, granted, letters, meets, set_of, word, Index};
+use crate::{ALL, CHAIN, COUNTS, HEADER, IDS, KINDS, LAST, LETTERS, M, NAMES, P, RECORD, RIGHTS};
 use std::collections::{BTreeMap, BTreeSet};
 use std::ops::Range;
 
@@ -85,6 +86,19 @@ const TO_MEET: &[(&str, &str, &[i64])] = &[
     ("read", "kind accepted, with an empty text", &[1, 2, 3]),
     ("read", "kind accepted, with a text", &[1, 2, 3]),
     ("read", "kind refused for its text", &[1, 2, 3]),
+    ("read", "refused for its text at the front, inside, or at the end", &[0, 1, 2]),
+    ("read", "refused for its text after no more records than there is room for, or after more", &[0, 1]),
+    ("read", "kind refused where its text ends", &[1, 2, 3]),
+    ("read", "kind refused at a digit of an id above 1023", &[1, 2, 3]),
+    ("read", "kind refused at a digit of an id not above the one before", &[1, 2, 3]),
+    ("read", "kind refused at the end of an id not above the one before", &[1, 2, 3]),
+    ("read", "kind refused at a digit of a count above 65,535", &[1, 2, 3]),
+    ("read", "kind refused at a digit for a zero in front", &[1, 2, 3]),
+    ("read", "kind refused at the end of a count of 1", &[1, 2, 3]),
+    ("read", "kind refused at the semicolon after id 1023", &[1, 2, 3]),
+    ("read", "kind refused at a letter out of order", &[1, 2, 3]),
+    ("read", "kind refused at a small letter", &[1, 3]),
+    ("read", OTHER_BYTE, &[1, 2, 3]),
     ("read", "records more, or fewer", &[-1, 0, 1]),
     ("tested", "number", &[0, 1, 2]),
     ("size", "number", &[0, 3]),
@@ -312,10 +326,66 @@ impl Call<'_> {
                 self.saw_set(kind, text.len());
                 self.saw("records more, or fewer", (Self::records(&after) - Self::records(self.block)).signum());
             }
-            9 => self.saw("kind refused for its text", kind as i64),
+            9 => self.saw_place(kind, key, &text, value as usize),
             _ => {}
         }
         Ok(after)
+    }
+
+    /// Where a text was wrong, and in what way.
+    fn saw_place(&mut self, kind: u64, key: u64, text: &[u8], place: usize) {
+        let (index, part) = (index_of(self.block), kind as usize - 1);
+        let room = index.room() - index.records() + set_of(&index.parts[part], key as u16).len();
+        let (records, inside, end) = (semicolons(&text[..place]) / 2, place > 0, place == text.len());
+        self.saw("kind refused for its text", kind as i64);
+        self.saw("refused for its text at the front, inside, or at the end", i64::from(inside) + i64::from(end));
+        self.saw("refused for its text after no more records than there is room for, or after more", (records > room).into());
+        self.saw(wrong(text, place, part), kind as i64);
+    }
+}
+
+/// Where the byte at the place is of a sort that can not stand there at all.
+const OTHER_BYTE: &str = "kind refused at a byte of another sort";
+
+fn semicolons(text: &[u8]) -> usize {
+    text.iter().filter(|&&byte| byte == b';').count()
+}
+
+/// What is wrong at the place of a text of no set, by the byte there and by what stands before it.
+fn wrong(text: &[u8], place: usize, part: usize) -> &'static str {
+    let Some(&byte) = text.get(place) else { return "kind refused where its text ends" };
+    let before = &text[..place];
+    let word = before.rsplit(|&byte| byte == b';').next().unwrap_or_default();
+    if semicolons(before) % 2 == 1 {
+        wrong_in_letters(word, byte, part)
+    } else {
+        wrong_in_id(word, byte)
+    }
+}
+
+/// The same after some digits of an id, or none.
+fn wrong_in_id(digits: &[u8], byte: u8) -> &'static str {
+    match byte {
+        b'0'..=b'9' if digits == b"0" => "kind refused at a digit for a zero in front",
+        b'0'..=b'9' if !IDS.contains_key(&[digits, &[byte]].concat()) => "kind refused at a digit of an id above 1023",
+        b'0'..=b'9' => "kind refused at a digit of an id not above the one before",
+        b';' if !digits.is_empty() => "kind refused at the end of an id not above the one before",
+        _ => OTHER_BYTE,
+    }
+}
+
+/// The same after some letters and counts of a record, or none.
+fn wrong_in_letters(word: &[u8], byte: u8, part: usize) -> &'static str {
+    let count = word.rsplit(|byte| LETTERS.contains(byte)).next().unwrap_or_default();
+    match byte {
+        b'0'..=b'9' | b';' if word.is_empty() => OTHER_BYTE,
+        b'0' if count.is_empty() => "kind refused at a digit for a zero in front",
+        b'0'..=b'9' => "kind refused at a digit of a count above 65,535",
+        _ if count == b"1" => "kind refused at the end of a count of 1",
+        b';' => "kind refused at the semicolon after id 1023",
+        _ if part != P && LETTERS[RIGHTS..].contains(&byte) => "kind refused at a small letter",
+        _ if LETTERS.contains(&byte) => "kind refused at a letter out of order",
+        _ => OTHER_BYTE,
     }
 }
 

@@ -306,26 +306,38 @@ pub fn set_text(rng: &mut Rng, index: &Index, kind: usize) -> Vec<u8> {
         let part = &index.parts[kind];
         set.extend(part.range((key, 0)..=(key, u16::MAX)).map(|(&(_, id), &c)| (id, c)));
     }
+    let other = if rng.one_in(8) { P } else { kind };
     for _ in 0..rng.pick(&[0, 1, 2, 5, 40]) {
         let id = name(rng, NAMES.into());
-        let kind = if rng.one_in(8) { P } else { kind };
+        let kind = rng.pick(&[kind, kind, other]);
         let counts = counts(rng, kind);
         set.insert(id, counts);
     }
     let mut text = text(&set);
-    let alphabet = [b"0123456789;", &LETTERS[..], b" x"].concat();
-    let wrong = ["1", "00", ";;", &format!("{NAMES};M"), &(1u64 << 16).to_string(), &((1u64 << 32) + 2).to_string()];
     for _ in 0..rng.pick(&[0, 0, 0, 1, 1, 2]) {
-        let at = rng.below(text.len() as u64 + 1) as usize;
-        match rng.below(7) {
-            0 => text.insert(at, rng.pick(&alphabet)),
-            1 if at < text.len() => drop(text.remove(at)),
-            2 if at < text.len() => text[at] = rng.pick(&alphabet),
-            3 => text.push(b';'),
-            4 => drop(text.splice(at..at, rng.pick(&wrong).bytes())),
-            5 => text = [&text[..], b";", &text[..]].concat(),
-            _ => text.extend([b';', b'9', b';', rng.pick(&LETTERS)]),
-        }
+        damage_text(rng, &mut text);
     }
     text
+}
+
+/// One fault in a text, of any kind that a text can have; now and then it is none.
+fn damage_text(rng: &mut Rng, text: &mut Vec<u8>) {
+    let alphabet = [b"0123456789;", &LETTERS[..], b" x"].concat();
+    let wrong = ["1", "00", ";;", &format!("{NAMES};M"), &(1u64 << 16).to_string(), &((1u64 << 32) + 2).to_string()];
+    let at = rng.below(text.len() as u64 + 1) as usize;
+    // the end of the first such byte from there on, or of the text
+    let after = |text: &[u8], such: fn(&u8) -> bool| text[at..].iter().position(such).map_or(text.len(), |n| at + n + 1);
+    match rng.below(12) {
+        0 => text.insert(at, rng.pick(&alphabet)),
+        1 if at < text.len() => drop(text.remove(at)),
+        2 if at < text.len() => text[at] = rng.pick(&alphabet),
+        3 => text.push(b';'),
+        4 => drop(text.splice(at..at, rng.pick(&wrong).bytes())),
+        5 => *text = [&text[..], b";", &text[..]].concat(),
+        6 => text.truncate(at),
+        7 if at + 1 < text.len() => text.swap(at, at + 1),
+        8 => text.insert(after(text, u8::is_ascii_digit), rng.pick(b"0123456789")),
+        9 | 10 => text.insert(after(text, u8::is_ascii_alphabetic), rng.pick(b"0111MU")),
+        _ => text.extend([b';', b'9', b';', rng.pick(&LETTERS)]),
+    }
 }

@@ -3,6 +3,7 @@
 //! sets of names. Nothing here is shared with the library; the comparison holds the two against each other.
 
 use std::collections::{BTreeMap, BTreeSet};
+use std::sync::LazyLock;
 
 pub mod drive;
 pub mod gen;
@@ -382,20 +383,53 @@ pub fn parse(text: &[u8], kind: usize) -> Option<BTreeMap<u16, Counts>> {
     (self::text(&set) == text).then_some(set)
 }
 
-/// read: the number, how many records the set has, and the block then.
+/// Each beginning of an id as it is written, with the greatest id that begins so.
+static IDS: LazyLock<BTreeMap<Vec<u8>, u16>> = LazyLock::new(|| {
+    let mut ids = BTreeMap::new();
+    for id in 0..NAMES {
+        let written = id.to_string().into_bytes();
+        ids.extend((0..=written.len()).map(|length| (written[..length].to_vec(), id)));
+    }
+    ids
+});
+
+/// Whether the text of some set of the kind begins so: what is missing is added, and then it must be the text of a set. To an
+/// id that is what makes it the greatest that begins so, since ids rise; behind an id it is nothing, a letter, or one more
+/// digit of a count.
+fn begins(beginning: &[u8], kind: usize) -> bool {
+    let is_text = |front: &[u8], rest: &str| parse(&[front, rest.as_bytes()].concat(), kind).is_some();
+    let words: Vec<&[u8]> = beginning.split(|&byte| byte == b';').collect();
+    if words.len() % 2 == 1 {
+        let digits = words[words.len() - 1];
+        let front = &beginning[..beginning.len() - digits.len()];
+        IDS.get(digits).is_some_and(|id| is_text(front, &format!("{id};M")))
+    } else {
+        ["", "M", "0"].iter().any(|rest| is_text(beginning, rest))
+    }
+}
+
+/// The place of a text: the length of its longest beginning that is also a beginning of the text of some set of the kind. What
+/// is shorter than such a beginning is one too, so the longest is found by halves.
+pub fn place(text: &[u8], kind: usize) -> usize {
+    let lengths: Vec<usize> = (1..=text.len()).collect();
+    lengths.partition_point(|&length| begins(&text[..length], kind))
+}
+
+/// read: the number, how many records the set has or the place where its text is wrong, and the block then.
 pub fn read(block: &[u8], kind: u64, key: u64, text: &[u8]) -> (u32, u32, Vec<u8>) {
-    let outcome = located(block, kind, key).and_then(|(mut index, kind, key)| {
-        let set = parse(text, kind).ok_or(9u32)?;
+    let found = located(block, kind, key).map_err(|number| (number, 0));
+    let outcome = found.and_then(|(mut index, kind, key)| {
+        let set = parse(text, kind).ok_or_else(|| (9, place(text, kind) as u32))?;
         index.parts[kind].retain(|&(k, _), _| k != key);
         if index.records() + set.len() > index.room() {
-            return Err(8);
+            return Err((8, 0));
         }
         index.parts[kind].extend(set.iter().map(|(&id, &counts)| ((key, id), counts)));
         Ok((set.len() as u32, index.encode()))
     });
     match outcome {
         Ok((records, block)) => (0, records, block),
-        Err(number) => (number, 0, block.to_vec()),
+        Err((number, value)) => (number, value, block.to_vec()),
     }
 }
 
@@ -461,5 +495,7 @@ pub fn standing(input: &[u8]) -> Vec<u8> {
     printed
 }
 
+#[cfg(test)]
+mod places;
 #[cfg(test)]
 mod tests;

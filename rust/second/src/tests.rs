@@ -51,14 +51,44 @@ fn text_of_a_set() {
     assert_eq!((number, records, after), (0, 2, index.encode()));
 }
 
+/// Texts of no set of memberships, and the place of each.
+const WRONG: [(&str, u32); 22] = [
+    ("3;M0", 3),
+    ("3;M1", 4),
+    ("3;M1;4;M", 4),
+    ("3;M65536", 7),
+    ("3;M655350", 8),
+    ("03;M", 1),
+    ("00;M", 1),
+    ("3;RM", 3),
+    ("3;MM", 3),
+    ("3;m", 2),
+    ("3;M;", 4),
+    ("3;", 2),
+    ("3", 1),
+    (";", 0),
+    ("+3;M", 0),
+    ("1024;M", 3),
+    ("65539;M", 3),
+    ("399;M;3", 6),
+    ("399;M;1024;M", 9),
+    ("1;M;1", 5),
+    ("1;M;1;R", 5),
+    ("1023;M;", 6),
+];
+
 #[test]
 fn texts_of_no_set() {
-    let empty = empty(4);
-    for text in ["3;M1", "03;M", "3;RM", "3;M;", "3;M0", "3;", "1024;M", "00;M", "3;M65536", "65539;M", "3;m", "+3;M", ";"] {
-        assert_eq!(read(&empty, 1, 5, text.as_bytes()), (9, 0, empty.clone()), "{text}");
+    for room in [4, 0] {
+        let empty = empty(room);
+        for (text, place) in WRONG {
+            assert_eq!(read(&empty, 1, 5, text.as_bytes()), (9, place, empty.clone()), "{text}");
+        }
+        assert_eq!(read(&empty, 1, 5, b""), (0, 0, empty.clone()));
     }
-    assert_eq!(read(&empty, 1, 5, b""), (0, 0, empty.clone()));
-    assert_eq!(read(&empty, 1, 5, b"0;M").0, 0);
+    assert_eq!(read(&empty(4), 1, 5, b"0;M").0, 0);
+    assert_eq!(read(&empty(4), 2, 5, b"3;m").0, 0);
+    assert_eq!(read(&empty(0), 1, 5, b"3;M"), (8, 0, empty(0)));
 }
 
 #[test]

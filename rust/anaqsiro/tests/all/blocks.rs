@@ -16,10 +16,20 @@ fn a_set_goes_there_and_back() {
     assert_eq!(block.read_set(Kind::Permission, 7, "3;MRU;12;MRU2"), Ok(2));
     assert_eq!(block.set_text(Kind::Permission, 7).as_deref(), Ok("3;MRU;12;MRU2"));
     let before = block.clone();
-    assert_eq!(block.read_set(Kind::Permission, 7, "3;M1"), Err(Refusal::Text));
+    assert_eq!(block.read_set(Kind::Permission, 7, "3;M1"), Err(Refusal::Text { place: 4 }));
     assert_eq!(block.read_set(Kind::Permission, 8, "1;M;2;M;3;M"), Err(Refusal::NoRoom));
     assert_eq!(block, before);
     assert_eq!(block.write_set(Kind::Permission, 7, &mut [0; 12]), Err(Refusal::TextLong));
+}
+
+/// A text that is wrong where it ends, or from some character on, is cut at its place, whatever that character is.
+#[test]
+fn a_wrong_text_is_cut_at_its_place() {
+    for (right, rest) in [("3;M", "0"), ("3;M1", ""), ("3;M", "ü;4;R"), ("", "³;M"), ("3;M;1023;R2", ";1023;U")] {
+        let text = right.to_string() + rest;
+        assert_eq!(with_room(0).read_set(Kind::Filter, 7, &text), Err(Refusal::Text { place: right.len() }));
+        assert_eq!(text.split_at(right.len()), (right, rest));
+    }
 }
 
 /// The longest text of all: every name as an id, and every count as long as it can be.

@@ -1,7 +1,7 @@
 //! The safe calls, held against the second program as the archive is.
 
 use anaqsiro::{raw, Block, Kind, Record, Refusal, Rights};
-use second::drive::{run, Library};
+use second::drive::{self, run, Library};
 
 /// The safe calls where the comparison wants a library. What they have no words for goes to the archive itself: a kind that is
 /// none, a request that is not of rights, a record that there is not, and the records of a block that is not good.
@@ -9,7 +9,11 @@ struct Safe;
 
 /// An answer put together again.
 fn packed(answer: Result<usize, Refusal>) -> u64 {
-    answer.map_or_else(|refusal| u64::from(refusal.number()) << 32, |value| value as u64)
+    match answer {
+        Ok(value) => value as u64,
+        Err(refusal @ Refusal::Text { place }) => drive::packed(refusal.number(), place as u32),
+        Err(refusal) => drive::packed(refusal.number(), 0),
+    }
 }
 
 /// What a call on a block of these bytes gives; the bytes are then the block's.

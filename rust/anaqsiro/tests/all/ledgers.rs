@@ -1,6 +1,7 @@
 //! The ledger, case by case.
 
 use anaqsiro::{Half, Kind, Ledger, Letters, Message, NotTaken, Refusal, Rights, Said, Statement, Taken, Why};
+use second::drive::packed;
 use second::gen::{self, Rng};
 
 const P: Kind = Kind::Permission;
@@ -142,7 +143,8 @@ fn a_message_that_is_not_well_formed_is_not_taken() {
         let mut ledger = with_room(8);
         let taken = ledger.take("a", 2, message);
         if (3..=5).contains(&number) {
-            assert_eq!(taken.map_err(|why| why.to_string()), Err(Refusal::from_number(number).expect("a refusal").to_string()));
+            let refusal = Refusal::from_answer(packed(number, 0)).expect("a refusal");
+            assert_eq!(taken.map_err(|why| why.to_string()), Err(refusal.to_string()));
             assert_eq!(ledger.waiting().count(), 0);
             met[number as usize] += 1;
         } else {

@@ -1,15 +1,24 @@
 //! Kinds, halves, messages and refusals.
 
 use anaqsiro::{Block, Half, Kind, Letters, Message, Refusal, Rights};
+use second::drive::packed;
+
+/// The refusal of a number and a value.
+fn refusal(number: u32, value: u32) -> Option<Refusal> {
+    Refusal::from_answer(packed(number, value))
+}
 
 #[test]
 fn every_refusal_has_its_number() {
-    let numbers: Vec<u32> = Refusal::NAMED.iter().map(|refusal| refusal.number()).collect();
-    assert_eq!(numbers, (1..=10).collect::<Vec<_>>());
-    assert!(numbers.iter().zip(Refusal::NAMED).all(|(&number, &named)| Refusal::from_number(number) == Some(named)));
-    assert_eq!(Refusal::from_number(0), None);
+    for number in 1..=10 {
+        let named = refusal(number, 0).expect("a refusal");
+        assert_eq!(named.number(), number);
+        assert!(!matches!(named, Refusal::Unknown(_)));
+        assert_eq!(refusal(number, 3) == Some(named), number != 9, "of a text alone the value is told");
+    }
+    assert_eq!([refusal(0, 0), refusal(0, 9)], [None, None]);
     for number in [11, 15, u32::MAX] {
-        assert_eq!(Refusal::from_number(number), Some(Refusal::Unknown(number)));
+        assert_eq!(refusal(number, 7), Some(Refusal::Unknown(number)));
         assert_eq!(Refusal::Unknown(number).number(), number);
     }
     assert_eq!(
@@ -17,6 +26,13 @@ fn every_refusal_has_its_number() {
         "refused with 8: after taking away (or removing the old set), the records do not fit"
     );
     assert_eq!(Refusal::Unknown(13).to_string(), "refused with 13: not a number of this version");
+}
+
+#[test]
+fn a_wrong_text_is_told_with_its_place() {
+    let words = [0, 1, 3].map(|place| Refusal::Text { place }.to_string());
+    let after = ["0 bytes", "1 byte", "3 bytes"];
+    assert_eq!(words, after.map(|bytes| format!("refused with 9: not the text of any set of that kind, wrong after {bytes}")));
 }
 
 #[test]

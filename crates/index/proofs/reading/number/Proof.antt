@@ -7,7 +7,7 @@ use borrow.Author.Needs.{needs}
 use borrow.Author.Tests.{not-true, not-false}
 use Rattle.index.specs.Reading.{readDigits, readNumber}
 use Rattle.index.proofs.HandedOn.{is-number}
-use Rattle.index.proofs.ReadNumbers.{high-enough}
+use Rattle.index.proofs.NumberReader.{high-enough}
 use Rattle.index.proofs.ReadSteps.{number-end, number-zero, number-no-zero, number-digit, number-other}
 use Rattle.index.proofs.reading.number.Statement.{statement}
 use Rattle.index.proofs.reading.number.Tie as tie

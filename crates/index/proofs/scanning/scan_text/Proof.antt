@@ -1,22 +1,23 @@
 -- `index::scanning::scan_text` meets its contract. The loop: proofs/Scans, `Turn`.
 use Prim.Native.Nat.{ℕ, _+_, _<_, _-_}
-use mathlib.Core.Path.{_≡_, refl, sym, subst}
+use mathlib.Core.Path.{_≡_, refl, sym, ap, _∙_, subst}
 use mathlib.Core.List.{List}
 use lib.ListN.{length, drop}
 use denote.Ref.{now}
 use native.Mathlib.Omega.{arith}
 use Rattle.index.specs.Letters.{letterCount}
-use Rattle.index.specs.Text.{Entry, Writes}
+use Rattle.index.specs.Text.{Entry}
 use Rattle.index.specs.declared.Kind.{Kind}
 use Rattle.index.specs.declared.reading.Cursor.{Cursor}
 use Rattle.index.specs.declared.reading.Piece.{Piece}
 use Rattle.index.specs.declared.reading.Piece.the-variants.{Wrong}
-use Rattle.index.specs.declared.scanning.Scan.{Scan}
+use Rattle.index.specs.declared.Took.{Took}
+use Rattle.index.specs.declared.Took.the-variants.{Wrong as NoSet}
 use Rattle.index.specs.Reading.{readRecord}
 use Rattle.index.specs.Reading.Parsed.{got}
-use Rattle.index.specs.Pieces.{Placed, Scanned}
-use Rattle.index.proofs.Scans.{Turn, no-text, turn-first, turn-wrong, shorter, turn-last, turn-no-mark, turn-full, turn-next}
-use Rattle.index.proofs.HandedOn.{is-mark, is-entry, is-placed, no-mark, no-entry}
+use Rattle.index.specs.Pieces.{placeIn, Scanned}
+use Rattle.index.proofs.Scans.{Turn, Refused, no-text, turn-first, turn-wrong, shorter, turn-last, turn-no-mark, turn-full, turn-next}
+use Rattle.index.proofs.HandedOn.{is-mark, is-entry, no-mark, no-entry}
 use borrow.Author.Needs.{needs}
 use Rattle.index.proofs.scanning.scan_text.Statement.{statement}
 use Rattle.index.proofs.scanning.scan_text.Tie as tie
@@ -27,11 +28,11 @@ Inv-loop text kind out₀ here₀ least₀ n₀ out here least n = (length out �
 abbrev μ-loop : tie.MeasureT-loop
 μ-loop text kind out₀ here₀ least₀ n₀ out here least n = length text - here .at
 
--- A wrong piece, and no set that is written so.
-refused-so : (kind : Kind) (text : List ℕ) (p : Piece) (c : Cursor) (r : Scan) → p ≡ Wrong c → Placed text p r
-    → ((es : List Entry) → Writes kind es text → ⊥) → Scanned kind text r
+-- A wrong piece, whose place is the text's.
+refused-so : (kind : Kind) (text : List ℕ) (p : Piece) (c : Cursor) (r : Took) → p ≡ Wrong c → r ≡ NoSet (length text - length (drop (placeIn p) text))
+    → Refused kind text (length text - length (drop (c .at) text)) → Scanned kind text r
 refused-so kind text p c r e h none =
-    subst (λ (x : Scan). Scanned kind text x) (sym (is-placed text e h)) none
+    subst (Scanned kind text) (sym (h ∙ ap (λ (q : Piece). NoSet (length text - length (drop (placeIn q) text))) e)) none
 
 -- ---- a record was read
 
@@ -57,17 +58,17 @@ was-read c =
 
 -- ---- and a `;` after it
 
-abbrev before : tie.After-sign Inv-loop μ-loop → tie.After-entry Inv-loop μ-loop
+abbrev before : tie.After-start Inv-loop μ-loop → tie.After-entry Inv-loop μ-loop
 before c = c .before .before .before .before .before .before
 
-next-turn : (c : tie.After-sign Inv-loop μ-loop)
-    → Turn (text (before c)) (start (before c) .args .kind) (c .sign .given .0 .0 .at) (entry (before c) .id + 1) (at-loop (before c) .loop .n + 1)
-    × (length (text (before c)) - c .sign .given .0 .0 .at < length (text (before c)) - at-loop (before c) .loop .here .at)
+next-turn : (c : tie.After-start Inv-loop μ-loop)
+    → Turn (text (before c)) (start (before c) .args .kind) (c .start .given .0 .0 .at) (entry (before c) .id + 1) (at-loop (before c) .loop .n + 1)
+    × (length (text (before c)) - c .start .given .0 .0 .at < length (text (before c)) - at-loop (before c) .loop .here .at)
 next-turn c =
     let k = before c in
     let l = at-loop k .loop in
-    turn-next (text k) (start k .args .kind) (l .here .at) (l .least) (l .n) (l .inv .1) (entry k) (next-at k) (was-read k) _ (c .sign .given .0 .0 .at) (c .before .before .before .if3 .left)
-    (is-mark (text k) (c .sign .given .1) (c .before .before .mark .ensures))
+    turn-next (text k) (start k .args .kind) (l .here .at) (l .least) (l .n) (l .inv .1) (entry k) (next-at k) (was-read k) _ (c .start .given .0 .0 .at) (c .before .before .before .if3 .left)
+    (is-mark (text k) (c .start .given .1) (c .before .before .mark .ensures))
 
 -- ---- the needs
 
@@ -114,12 +115,11 @@ returns-4 c =
 
 returns-5 : tie.Need-returns-5 Inv-loop μ-loop
 returns-5 c =
-    let k = c .before .before .before .before .before .before in
+    let k = c .before .before .before .before .before in
     let l = at-loop k .loop in
-    let m = c .before .before .mark in
-    let w = no-mark (text k) (m .result) _ (c .before .match2 .keys2) (m .ensures) in
-    refused-so (start k .args .kind) (text k) _ _ _ (w .1) (c .refused2 .ensures)
-    (turn-no-mark (text k) (start k .args .kind) (l .here .at) (l .least) (l .n) (l .inv .1) (entry k) (next-at k) (was-read k) _ (c .before .before .before .before .if2 .left) (w .2))
+    let m = c .before .mark in
+    let w = no-mark (text k) (m .result) _ (c .match2 .keys2) (m .ensures) in
+    turn-no-mark (text k) (start k .args .kind) (l .here .at) (l .least) (l .n) (l .inv .1) (entry k) (next-at k) (was-read k) _ (c .before .before .before .if2 .left) (w .2)
 
 add-least : tie.Need-add-least Inv-loop μ-loop
 add-least c = omega (arith, next-turn (c .before) .0 .small)
@@ -147,7 +147,6 @@ scan-text-spec =
     returns-4
     (λ c κs. search needs)
     (λ c. search needs)
-    (λ c κs. search needs)
     returns-5
     add-least
     loop-less

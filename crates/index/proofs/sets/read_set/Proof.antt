@@ -8,8 +8,8 @@ use lib.ListN.{length}
 use borrow.Author.Needs.{needs}
 use borrow.Author.Tests.{leb-true, leb-false, not-true, not-false}
 use Rattle.index.specs.declared.Kind.{Kind}
-use Rattle.index.specs.declared.scanning.Scan.{Scan}
-use Rattle.index.specs.declared.scanning.Scan.the-variants.{Records}
+use Rattle.index.specs.declared.Took.{Took}
+use Rattle.index.specs.declared.Took.the-variants as took
 use Rattle.index.specs.Block.{nameCount, greatestLength, place, records, room, Sized}
 use Rattle.index.specs.Text.{setOf, Writes}
 use Rattle.index.specs.Calls.{setNeeds}
@@ -41,21 +41,21 @@ ready : (c : tie.Else1) → Held (block c) (start c .args .kind) (start c .args 
 ready c = held _ _ _ (all c)
 
 -- The text is of a set of n records.
-abbrev passed : tie.After-n → tie.Else1
+abbrev passed : tie.After-scanned → tie.Else1
 passed c = c .before .before .before .before
 
-abbrev kind : tie.After-n → Kind
+abbrev kind : tie.After-scanned → Kind
 kind c = c .before .before .before .kind-of .result
 
-scanned : (c : tie.After-n) → Scanned (kind c) (text (passed c)) (Records (c .n .given .0 .0))
-scanned c = subst (λ (r : Scan). Scanned (kind c) (text (passed c)) r) (c .n .given .1) (c .before .before .scan-text .ensures)
+scanned : (c : tie.After-scanned) → Scanned (kind c) (text (passed c)) (took.Set (c .scanned .given .0 .0))
+scanned c = subst (λ (r : Took). Scanned (kind c) (text (passed c)) r) (c .scanned .given .1) (c .before .before .scan-text .ensures)
 
-few : (c : tie.After-n) → c .n .given .0 .0 ≤ nameCount
+few : (c : tie.After-scanned) → c .scanned .given .0 .0 ≤ nameCount
 unfolding Writes
 few c = let (es, w, e) = scanned c in omega (arith, set-few (w .0))
 
 -- The old set stands between two places.
-abbrev after-n : tie.After-place-of2 → tie.After-n
+abbrev after-n : tie.After-place-of2 → tie.After-scanned
 after-n c = c .before .before .before .before .before
 
 abbrev now-ready : (c : tie.After-place-of2) → Held (block (passed (after-n c))) (start (passed (after-n c)) .args .kind) (start (passed (after-n c)) .args .key)
@@ -84,10 +84,10 @@ abbrev old : tie.Else2 → ℕ
 old c = bounded c .place-of2 .result - first (bounded c)
 
 roomy : (c : tie.Else2)
-    → records (block (passed (after-n (bounded c)))) + after-n (bounded c) .n .given .0 .0 ≤ room (block (passed (after-n (bounded c)))) + old c
+    → records (block (passed (after-n (bounded c)))) + after-n (bounded c) .scanned .given .0 .0 ≤ room (block (passed (after-n (bounded c)))) + old c
 roomy c = leb-true _ _ (sym (c .before .has-room .ensures) ∙ not-false _ (c .if2 .left))
 
-opens : (c : tie.Else2) → Opens (kind (after-n (bounded c))) (first (bounded c)) (old c) (after-n (bounded c) .n .given .0 .0) (block (passed (after-n (bounded c))))
+opens : (c : tie.Else2) → Opens (kind (after-n (bounded c))) (first (bounded c)) (old c) (after-n (bounded c) .scanned .given .0 .0) (block (passed (after-n (bounded c))))
 unfolding room
 opens c =
     let w = within (bounded c) in
@@ -106,8 +106,7 @@ returns c = took-refused _ _ _ _ _ (c .if1 .taken) (c .before .set-refused .ensu
 
 returns-2 : tie.Need-returns-2
 returns-2 c =
-    took-wrong _ _ _ _ (all (c .before .before .before .before)) _ (c .before .before .before .kind-of .ensures)
-    (subst (λ (r : Scan). Scanned (c .before .before .before .kind-of .result) (text (c .before .before .before .before)) r) (c .enum-told .given .1) (c .before .before .scan-text .ensures))
+    took-wrong _ _ _ _ (all (c .before .before .before)) _ (c .before .before .kind-of .ensures) _ (c .match .keys2) (c .before .scan-text .ensures)
 
 returns-3 : tie.Need-returns-3
 returns-3 c =
@@ -137,7 +136,6 @@ read-set-spec =
     returns
     (λ c κs. search needs)
     (λ c κs. search needs)
-    (λ c. search needs)
     (λ c. search needs)
     (λ c. search needs)
     returns-2
