@@ -56,9 +56,10 @@ static void print_records(void) {
     }
 }
 
-/* Prints a text, and a caret under the byte at the place: the first wrong one, or the end of a text that ends too early. */
+/* Prints a text up to the end of its line, and a caret under the byte at the place: the first wrong one, or the end of a text
+ * that ends too early. No place is behind the end of the line, which stands in no text of a set. */
 static void print_place(const char *text, uint32_t place) {
-    printf("  %s\n  %*s^\n", text, (int)place, "");
+    printf("  %.*s\n  %*s^\n", (int)strcspn(text, "\n"), text, (int)place, "");
 }
 
 /* Reads in a set as the desk has written it, and shows where it is wrong. */
@@ -102,6 +103,7 @@ int main(void) {
     read_in("letters in another order", "1;U;4;UR2;12;R;30;M");
     read_in("an id that was there before", "1;U;4;RU2;12;R;4;M");
     read_in("a count of 1", "1;U;4;RU2;12;R;30;M1");
+    read_in("a line end", "1;U;4;RU2;12;R;30;M\n");
     read_in("as it should be", "1;U;4;RU2;12;R;30;M");
     return 0;
 }

@@ -131,7 +131,8 @@ uint64_t anaqsiro_write(const uint8_t *block, size_t len, uint64_t kind, uint64_
 /* Replaces the records of one kind and key by those of a text. Numbers 0, 1, 2, 3, 4, 9, 8. Value: how many records; with 9 the
  * place: the length of the text's longest beginning that is also a beginning of some acceptable text of that kind, whatever the
  * room. So text[place] is the first wrong byte, or the text ends too early where the place is text_len. It is 3 for 3;M0, and 4
- * for 3;M1, since 3;M10 would do. */
+ * for 3;M1, since 3;M10 would do. A desk is shown the text up to the place, and a caret under the next byte: after a line with
+ * the text, printf("%*s^\n", (int)place, "") prints the caret. */
 uint64_t anaqsiro_read(uint8_t *block, size_t len, uint64_t kind, uint64_t key, const uint8_t *text, size_t text_len);
 
 /* ---- a block as it stands, record by record

@@ -1,4 +1,5 @@
--- What reading a number tells: the bytes read are a number in decimal, or begin one.
+-- What reading a number tells: the bytes read are a number in decimal, or begin one; and when its lower bound need not be
+-- looked at.
 use Prim.Native.Nat.{ℕ, suc, _+_, _-_, _*_, _/_, _%_, max, _<_, _≤_}
 use mathlib.Core.Path.{_≡_, refl, sym, ap, subst, _∙_}
 use mathlib.Core.Bool.{Bool, true, false, cond}

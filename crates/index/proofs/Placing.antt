@@ -1,4 +1,4 @@
--- M-101: reading is wrong at the place of a text. So every text has a place, and one only.
+-- M-101: reading is wrong at the place of a text; every text has a place, and one only.
 use Prim.Native.Nat.{ℕ, suc, _-_, _+_, _<_, _≤_}
 use mathlib.Core.Path.{_≡_, refl, sym, ap, _∙_, subst}
 use mathlib.Core.List.{List, [], _∷_, _++_, append-assoc, append-nil}

@@ -42,7 +42,7 @@ unfolding readLetter
 letter-none l [] = refl
 letter-none l (b ∷ r) = refl
 
-pub letter-complete : (may : Bool) (l c : ℕ) (r : List ℕ) → (may ≡ false → c ≡ 0) → c ≤ greatestCount → digit (first r) ≡ false → (first r ≡ l → ⊥)
+letter-complete : (may : Bool) (l c : ℕ) (r : List ℕ) → (may ≡ false → c ≡ 0) → c ≤ greatestCount → digit (first r) ≡ false → (first r ≡ l → ⊥)
     → readLetter may l (pieceOf l c ++ r) ≡ got c r
 unfolding readLetter pieceOf
 letter-complete false l c r n h d m = rw (n refl) (letter-none l r)

@@ -135,7 +135,8 @@ module _ {A : Type 0} (W : A → List ℕ → Type 0) where
       → (u : List ℕ) × (t ≡ u ++ r) × W a u
   reads f k t e = let l = subst (λ (x : Parsed A). Tells A f W t x) e (k t) in (l .read, l .split, l .means)
 
--- What is read is handed on. Where the first reading is wrong, what it began is gone on with as the second would begin.
+-- What is read is handed on. Where the first reading is wrong, what it has begun is completed, and something follows that the
+-- second reads.
 module _ {A C : Type 0} (f : List ℕ → Parsed A) (W : A → List ℕ → Type 0) (Y : C → List ℕ → Type 0) (k : Reader A f W) where
   pub reader-then : (g : A → List ℕ → Parsed C) → ((a : A) (u : List ℕ) → W a u → Reader C (g a) (λ c v. Y c (u ++ v)))
       → Reader C (λ s. andThen (f s) g) Y

@@ -9,8 +9,8 @@ use native.Mathlib.Omega.{arith}
 use borrow.Author.Tests.{lt-ltb, le-ltb}
 use Rattle.index.specs.declared.Kind.{Kind}
 use Rattle.index.specs.Text.{Entry, entryText, IsSet, Writes}
-use Rattle.index.specs.Beginning.{Place}
-use Rattle.index.specs.Pieces.{more, rest}
+use Rattle.index.specs.declared.Took.the-variants as took
+use Rattle.index.specs.Pieces.{Scanned, more, rest}
 use Rattle.index.proofs.SetText.{rest-next}
 use Rattle.index.specs.Reading.{Parsed, andThen, readMark, readRecord, readMore, readRecords, parse}
 use Rattle.index.specs.Reading.Parsed.{got, wrong}
@@ -65,7 +65,7 @@ joined-more es e (wrong s) = refl
 
 -- The text is of no set, and n is its place.
 abbrev pub Refused : Kind → List ℕ → ℕ → Type 0
-Refused kind text n = ((es : List Entry) → Writes kind es text → ⊥) × Place kind text n
+Refused kind text n = Scanned kind text (took.Wrong n)
 
 refused-at : (kind : Kind) (text : List ℕ) {s : List ℕ} → parse kind text ≡ wrong s → Refused kind text (length text - length s)
 refused-at kind text e = (parse-wrong kind text e, wrong-place kind text e)
@@ -118,10 +118,9 @@ module _ (text : List ℕ) (kind : Kind) where
     module _ (e : Entry) (at′ : ℕ) (h : readRecord kind least (drop at text) ≡ got e (drop at′ text)) where
       pub shorter : length text - at′ < length text - at
       shorter =
-          let s = record-sound kind least (omega (arith, t .small)) (drop at text) h in
-          let l : length (drop at text) ≡ length (entryText e) + length (drop at′ text) =
-          ap length (s .text) ∙ length-append (entryText e) (drop at′ text) in
-          omega (arith, long-entry e, length-drop at text, length-drop at′ text)
+          let (u, q, w) = record-sound kind least (omega (arith, t .small)) (drop at text) h in
+          let l : length (drop at text) ≡ length u + length (drop at′ text) = ap length q ∙ length-append u (drop at′ text) in
+          omega (arith, ap length (w .text), long-entry e, length-drop at text, length-drop at′ text)
 
       step : parse kind text
           ≡ joined (t .es) (readMore e (drop at′ text) (λ s. readRecords (left .0) kind (e .id + 1) s))
@@ -149,8 +148,8 @@ module _ (text : List ℕ) (kind : Kind) where
       pub turn-next : (m at″ : ℕ) → (e .id ≡ greatestName → ⊥) → readMark (drop at′ text) ≡ got m (drop at″ text)
           → Turn text kind at″ (e .id + 1) (n + 1) × (length text - at″ < length text - at)
       turn-next m at″ o k =
-          let s = record-sound kind least (omega (arith, t .small)) (drop at text) h in
-          let n : e .id < greatestName = omega (arith, s .entry .named) in
+          let (u, p, w) = record-sound kind least (omega (arith, t .small)) (drop at text) h in
+          let n : e .id < greatestName = omega (arith, w .entry .named) in
           let q : suc (length (drop at″ text)) ≡ length (drop at′ text) = ap length (sym (mark-sound (drop at′ text) k)) in
           let l : length text - at″ < length text - at = omega (arith, shorter, length-drop at′ text, length-drop at″ text) in (
             record {
@@ -158,7 +157,7 @@ module _ (text : List ℕ) (kind : Kind) where
               es = t .es ++ (e ∷ []);
               size = omega (arith, length-append (t .es) (e ∷ []), t .size);
               small = omega arith;
-              enough = omega (arith, t .enough, left .1, s .above);
+              enough = omega (arith, t .enough, left .1, w .above);
               says = step ∙ ap (joined (t .es)) (more-next e (drop at′ text) _ n k) ∙ joined-more (t .es) e (readRecords (left .0) kind (e .id + 1) (drop at″ text));
               room = omega (arith, t .room);
             },

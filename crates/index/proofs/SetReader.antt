@@ -106,24 +106,16 @@ module _ (kind : Kind) (least i : ℕ) (l : least ≤ i) (h : i ≤ greatestName
       reader-then readMark (λ m u. 59 ∷ [] ≡ u) _ mark-reader _
       (λ m u w. subst (λ (x : List ℕ). Reader Entry (readLetters kind i) (λ e v. EntryText kind least e (decimal i ++ (x ++ v)))) w letters-reader)
 
-pub record-reader : (kind : Kind) (least : ℕ) → least ≤ greatestName → Reader Entry (readRecord kind least) (EntryText kind least)
+record-reader : (kind : Kind) (least : ℕ) → least ≤ greatestName → Reader Entry (readRecord kind least) (EntryText kind least)
 unfolding readRecord
 record-reader kind least l =
     reader-then (readNumber least greatestName) (Number least greatestName) (EntryText kind least)
     (number-reader least greatestName l (omega arith)) _
     (λ i u w. subst (λ (x : List ℕ). Reader Entry (readAfterId kind i) (λ e v. EntryText kind least e (x ++ v))) (w .0) (after-id-reader kind least i (w .1) (w .2)))
 
--- what reading a record finds: e, with r left
-pub record ReadsEntry (kind : Kind) (least : ℕ) (t : List ℕ) (e : Entry) (r : List ℕ) : Type 0 where
-  pub text : t ≡ entryText e ++ r
-  pub entry : IsEntry kind e
-  pub above : least ≤ e .id
-
 pub record-sound : (kind : Kind) (least : ℕ) → least ≤ greatestName → (t : List ℕ) {e : Entry} {r : List ℕ} → readRecord kind least t ≡ got e r
-    → ReadsEntry kind least t e r
-record-sound kind least l t {e} {r} h =
-    let (u, q, w) = reads (EntryText kind least) (readRecord kind least) (record-reader kind least l) t h in
-    record { text = q ∙ ap (λ (x : List ℕ). x ++ r) (sym (w .text)); entry = w .entry; above = w .above }
+    → (u : List ℕ) × (t ≡ u ++ r) × EntryText kind least e u
+record-sound kind least l = reads (EntryText kind least) (readRecord kind least) (record-reader kind least l)
 
 -- ---- a set
 

@@ -68,7 +68,7 @@ text-bound (IsSet.more {e = e} {f = f} {es = es} h l s) =
       text-bound s,
     )
 
--- So no place is far on.
+-- So no place is beyond the longest text.
 pub place-bound : {kind : Kind} {t : List ℕ} {n : ℕ} → Place kind t n → n ≤ longestText
 unfolding Begins Writes
 place-bound {kind} {t} {n} p =

@@ -1,5 +1,5 @@
--- A refusal changes nothing: its number is above 0, its value is 0, and with 9 the place of the text, and each lent byte is
--- as it came.
+-- A refusal changes nothing: its number is above 0, its value is 0 or, with 9, the place of the text, and each lent byte is as it
+-- came.
 use Prim.Native.Nat.{ℕ, _<_}
 use native.Mathlib.Omega.{arith}
 use mathlib.Core.Path.{_≡_, refl}

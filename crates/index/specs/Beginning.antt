@@ -5,12 +5,12 @@ use lib.ListN.{length, take}
 use Rattle.index.specs.declared.Kind.{Kind}
 use Rattle.index.specs.Text.{Entry, Writes}
 
--- M-101: t is "a beginning of some acceptable text of that kind": some set of the kind is written as t followed by something.
+-- M-101: "a beginning of some acceptable text of that kind": some set of the kind is written as these bytes followed by something.
 unfoldable pub Begins : Kind → List ℕ → Type 0
-Begins kind t = (es : List Entry) × (something : List ℕ) × Writes kind es (t ++ something)
+Begins kind beginning = (es : List Entry) × (something : List ℕ) × Writes kind es (beginning ++ something)
 
 -- M-101: n is "the length of its longest beginning that is also a beginning of some acceptable text of that kind".
-pub record Place (kind : Kind) (t : List ℕ) (n : ℕ) : Type 0 where
-  pub within : n ≤ length t
-  pub begins : Begins kind (take n t)
-  pub longest : (m : ℕ) → n < m → m ≤ length t → Begins kind (take m t) → ⊥
+pub record Place (kind : Kind) (text : List ℕ) (n : ℕ) : Type 0 where
+  pub within : n ≤ length text
+  pub begins : Begins kind (take n text)
+  pub longest : (longer : ℕ) → n < longer → longer ≤ length text → Begins kind (take longer text) → ⊥

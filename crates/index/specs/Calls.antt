@@ -80,8 +80,8 @@ writeNeeds b kind x out = setNeeds b kind x ++ ((10, length (textOf (setOf b (ki
 unfoldable pub WritesSet : List ℕ → ℕ → ℕ → List ℕ → (ℕ × ℕ × List ℕ) → Type 0
 WritesSet b kind x out o = First (λ n. (n, 0, out)) (writeNeeds b kind x out) (Written b kind x out) o
 
--- read: the number, how many records the set has, and the block then. "Reading replaces the whole set of that kind and key,
--- and returns how many records it has."
+-- read: the number, a value, and the block then. The value is how many records the set has; with 9 it is the place of the text; with
+-- any other refusal it is 0. "Reading replaces the whole set of that kind and key, and returns how many records it has."
 abbrev pub Read : List ℕ → Kind → ℕ → List Entry → (ℕ × ℕ × List ℕ) → Type 0
 Read b kind x es o = (o .0 ≡ 0) × (o .1 ≡ length es) × Replaced kind x es b (o .2)
 
@@ -99,7 +99,7 @@ abbrev pub OfSet : List ℕ → Kind → ℕ → List ℕ → (ℕ × ℕ × Lis
 OfSet b kind x text o =
     (es : List Entry) × Writes kind es text × First (λ n. (n, 0, b)) ((8, RoomFor b kind x es) ∷ []) (Read b kind x es) o
 
--- "read tests 9 before 8."
+-- "read tests 9 before 8": whether there is room is asked only of a text that is of a set.
 abbrev pub ReadsText : List ℕ → Kind → ℕ → List ℕ → (ℕ × ℕ × List ℕ) → Type 0
 ReadsText b kind x text o = OfNone b kind text o ⊎ OfSet b kind x text o
 

@@ -1,4 +1,4 @@
--- What the support desk reads: one file for each heading of 01.
+-- What the support desk reads: a file for each heading of 01, and one for M-101.
 pub mod Letters
 pub mod Numbers
 pub mod Block

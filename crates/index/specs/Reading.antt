@@ -1,6 +1,6 @@
 -- For proofs only: 01, "The text of a set", read from the front, piece by piece: an id, `;`, a letter, a count. Each reading
 -- says what stands at the front of the bytes and which bytes are left after it, or that it is wrong, and from which byte on.
--- That reading finds exactly what `textOf` writes is shown in proofs/ReadSets.
+-- That what `textOf` writes is read so is shown in proofs/ReadSets, and what each reading tells in proofs/SetReader.
 use Prim.Native.Nat.{ℕ, suc, _+_, _-_, _*_}
 use mathlib.Core.Bool.{Bool, true, false, cond, _&&_}
 use mathlib.Core.List.{List, [], _∷_}

@@ -80,8 +80,8 @@ fn digits(text: &[u8], c: Cursor, least: usize, most: usize, n: usize) -> Piece
     ended(least, sum, Cursor { at })
 }
 
-// A number from `least` to `most` at the cursor, without leading zeros. Mostly any number up to `most` there is high
-// enough; only where it is not, the digits are read again, to know at which of them it is wrong.
+// A number from `least` to `most` at the cursor, without leading zeros. Mostly there is a number up to `most`, and it is
+// high enough; only where it is not so, the digits are read again, to know from which byte on it is wrong.
 pub(crate) fn number(text: &[u8], c: Cursor, least: usize, most: usize) -> Piece
     requires { ⌜ (least < 100000) × (most < 100000) ⌝ }
     ensures { λ r. ⌜ SeesNumber (now (text .entry)) r (readNumber least most (drop (c .at) (now (text .entry)))) ⌝ }

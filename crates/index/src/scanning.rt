@@ -59,7 +59,7 @@ pub(crate) fn scan_text(text: &[u8], kind: Kind) -> Took
             return Took::Set(n);
         }
         if name == GREATEST_NAME {
-            return Took::Wrong(at);
+            return Took::Wrong(at); // no id is left for another record
         }
         let Piece::Mark(start) = mark(text, next) else {
             return Took::Wrong(at);

@@ -29,7 +29,7 @@ texts-right =
 
 places-right : Each Shows places
 unfolding letters lettersOf digit reaches readDigits readNumber readCount readLetter readCounts readMark readRecord readMore readRecords parse
-places-right = all-mean places (refl and refl and refl and refl and tt)
+places-right = all-mean places (refl and refl and refl and refl and refl and tt)
 
 chains-right : Each Shows chains
 unfolding number countAt lettersOf

@@ -103,13 +103,13 @@ abbrev isWrong : List ℕ → ℕ → Parsed (List Entry) → Bool
 isWrong t place (got es s) = false
 isWrong t place (wrong s) = eqb (length t - length s) place
 
-abbrev wrongFor : List ℕ → ℕ → Kind → Bool
-wrongFor t place kind = isWrong t place (parse kind t)
+abbrev wrongFor : List ℕ → (Kind → ℕ) → Kind → Bool
+wrongFor t place kind = isWrong t (place kind) (parse kind t)
 
-abbrev pub wrongTest : List ℕ → ℕ → Bool
+abbrev pub wrongTest : List ℕ → (Kind → ℕ) → Bool
 wrongTest t place = wrongFor t place Membership && (wrongFor t place Permission && wrongFor t place Filter)
 
-wrong-for : (b : List ℕ) (kind : Kind) (t : List ℕ) (place : ℕ) → wrongFor t place kind ≡ true → OfNone b kind t (9, place, b)
+wrong-for : (b : List ℕ) (kind : Kind) (t : List ℕ) (place : ℕ) → isWrong t place (parse kind t) ≡ true → OfNone b kind t (9, place, b)
 wrong-for b kind t place = go (parse kind t) refl
   where
     go : (r : Parsed (List Entry)) → parse kind t ≡ r → isWrong t place r ≡ true → OfNone b kind t (9, place, b)
@@ -117,7 +117,7 @@ wrong-for b kind t place = go (parse kind t) refl
     go (wrong s) p e =
         (parse-wrong kind t p, refl, subst (Place kind t) (eqb-true (length t - length s) place e) (wrong-place kind t p), refl)
 
-each-kind : (t : List ℕ) (place : ℕ) → wrongTest t place ≡ true → (kind : Kind) → wrongFor t place kind ≡ true
+each-kind : (t : List ℕ) (place : Kind → ℕ) → wrongTest t place ≡ true → (kind : Kind) → wrongFor t place kind ≡ true
 each-kind t place e = go
   where
     p : (wrongFor t place Membership ≡ true) × (wrongFor t place Permission && wrongFor t place Filter ≡ true)
@@ -128,10 +128,11 @@ each-kind t place e = go
     go Permission = both (wrongFor t place Permission) _ (p .1) .0
     go Filter = both (wrongFor t place Permission) _ (p .1) .1
 
-pub wrong-test : (t : List ℕ) (place : ℕ) → wrongTest t place ≡ true → Anywhere (λ b kind x. ReadsSet b kind x t (9, place, b))
+pub wrong-test : (t : List ℕ) (place : Kind → ℕ) → wrongTest t place ≡ true
+    → Anywhere (λ b kind x. ReadsSet b kind x t (9, place (kindOf kind), b))
 unfolding ReadsSet setNeeds blockNeeds
 wrong-test t place e b kind x s g k n =
-    inr (s, inr (g, inr (k, inr (n, inl (wrong-for b (kindOf kind) t place (each-kind t place e (kindOf kind)))))))
+    inr (s, inr (g, inr (k, inr (n, inl (wrong-for b (kindOf kind) t (place (kindOf kind)) (each-kind t place e (kindOf kind)))))))
 
 -- ---- the empty text, which is the empty set's
 

@@ -4,9 +4,11 @@ use Prim.Native.Nat.{ℕ, _≤_}
 use mathlib.Core.Path.{_≡_}
 use mathlib.Core.List.{List, [], _∷_, _++_}
 use lib.ListN.{length, drop}
+use Rattle.index.specs.declared.Kind.{Kind}
+use Rattle.index.specs.declared.Kind.the-variants.{Membership, Permission, Filter}
 use Rattle.index.specs.Letters.{allRights}
 use Rattle.index.specs.Block.{IsName, Sized, Good}
-use Rattle.index.specs.Message.{IsKind}
+use Rattle.index.specs.Message.{IsKind, kindOf}
 use Rattle.index.specs.Calls.{Message, WritesSet, ReadsSet}
 use Rattle.rights.specs.Questions.{Full}
 use Rattle.tight.specs.Blocks.{once, block, zeros, halfBytes, giving, moving, nothing, reads, give, withdraw}
@@ -18,8 +20,8 @@ pub data Case : Type 0 where
   everywhere : (block : List ℕ) (user mask : ℕ) → Case
   -- the set of the kind and key in the block has n records and is written so, and the text is read back
   text : (block : List ℕ) (kind key : ℕ) (text : List ℕ) (n : ℕ) → Case
-  -- the text is refused with 9, and this is its place
-  wrong : (text : List ℕ) (place : ℕ) → Case
+  -- the text is refused with 9, and this is its place among texts of each kind
+  wrong : (text : List ℕ) (place : Kind → ℕ) → Case
   -- the empty text is accepted, with 0 records
   empty : Case
   -- the message is accepted, and the block is then this
@@ -37,11 +39,20 @@ Shows (Case.everywhere b u mask) = (o : ℕ) → IsName o → Full b u o allRigh
 Shows (Case.text b kind x t n) =
     ((out : List ℕ) → length t ≤ length out → WritesSet b kind x out (0, length t, t ++ drop (length t) out))
     × ReadsSet b kind x t (0, n, b)
-Shows (Case.wrong t place) = Anywhere (λ b kind x. ReadsSet b kind x t (9, place, b))
+Shows (Case.wrong t place) = Anywhere (λ b kind x. ReadsSet b kind x t (9, place (kindOf kind), b))
 Shows Case.empty =
     Anywhere (λ b kind x. (o : ℕ × ℕ × List ℕ) → ReadsSet b kind x [] o → (o .0 ≡ 0) × (o .1 ≡ 0))
 Shows (Case.accepted b m b′) = Message b m (0, b′)
 Shows (Case.refused b m n) = Message b m (n, b)
+
+-- A place that is the same for all kinds, and one that is another for permissions.
+abbrev pub always : ℕ → Kind → ℕ
+always n kind = n
+
+abbrev pub either : ℕ → ℕ → Kind → ℕ
+either n m Membership = n
+either n m Permission = m
+either n m Filter = n
 
 -- The block with one P record, as one statement with this mask leaves it.
 abbrev pub granted : ℕ → List ℕ
@@ -69,12 +80,12 @@ texts =
     Case.text twoRecords 2 7 twoText 2
     -- "Texts `3;M1`, `03;M`, `3;RM`, `3;M;`, `3;M0`, `3;`: 9 each. Empty text: accepted, 0 records." M-101: "For `3;M0` that is 3;
     -- for `3;M1` it is 4, since `3;M10` would do." The byte of 0 is 48, of 1 49, of 3 51, of `;` 59, of M 77 and of R 82.
-    ∷ Case.wrong (51 ∷ 59 ∷ 77 ∷ 49 ∷ []) 4
-    ∷ Case.wrong (48 ∷ 51 ∷ 59 ∷ 77 ∷ []) 1
-    ∷ Case.wrong (51 ∷ 59 ∷ 82 ∷ 77 ∷ []) 3
-    ∷ Case.wrong (51 ∷ 59 ∷ 77 ∷ 59 ∷ []) 4
-    ∷ Case.wrong (51 ∷ 59 ∷ 77 ∷ 48 ∷ []) 3
-    ∷ Case.wrong (51 ∷ 59 ∷ []) 2
+    ∷ Case.wrong (51 ∷ 59 ∷ 77 ∷ 49 ∷ []) (always 4)
+    ∷ Case.wrong (48 ∷ 51 ∷ 59 ∷ 77 ∷ []) (always 1)
+    ∷ Case.wrong (51 ∷ 59 ∷ 82 ∷ 77 ∷ []) (always 3)
+    ∷ Case.wrong (51 ∷ 59 ∷ 77 ∷ 59 ∷ []) (always 4)
+    ∷ Case.wrong (51 ∷ 59 ∷ 77 ∷ 48 ∷ []) (always 3)
+    ∷ Case.wrong (51 ∷ 59 ∷ []) (always 2)
     ∷ Case.empty
     ∷ Case.text twoRecords 1 7 [] 0 ∷ []
 
@@ -82,11 +93,13 @@ abbrev pub places : List Case
 places =
     -- M-101: "the length of its longest beginning that is also a beginning of some acceptable text of that kind". A count is at
     -- most 65,535, so `3;M65536` is wrong at 7; 1023 is the last id, so `1023;M;` is wrong at 6; ids rise, so `399;M;3` is wrong
-    -- at 6, for no id above 399 begins with 3; but `1;M;1` is not before its end, since `1;M;10;M` would do.
-    Case.wrong (51 ∷ 59 ∷ 77 ∷ 54 ∷ 53 ∷ 53 ∷ 51 ∷ 54 ∷ []) 7
-    ∷ Case.wrong (49 ∷ 48 ∷ 50 ∷ 51 ∷ 59 ∷ 77 ∷ 59 ∷ []) 6
-    ∷ Case.wrong (51 ∷ 57 ∷ 57 ∷ 59 ∷ 77 ∷ 59 ∷ 51 ∷ []) 6
-    ∷ Case.wrong (49 ∷ 59 ∷ 77 ∷ 59 ∷ 49 ∷ []) 5 ∷ []
+    -- at 6, for no id above 399 begins with 3; `1;M;1` is wrong only at its end, since `1;M;10;M` would do. Small letters are for
+    -- permissions, so `3;mM` is wrong at 3 among them, for M stands before m, and at 2 among the others.
+    Case.wrong (51 ∷ 59 ∷ 77 ∷ 54 ∷ 53 ∷ 53 ∷ 51 ∷ 54 ∷ []) (always 7)
+    ∷ Case.wrong (49 ∷ 48 ∷ 50 ∷ 51 ∷ 59 ∷ 77 ∷ 59 ∷ []) (always 6)
+    ∷ Case.wrong (51 ∷ 57 ∷ 57 ∷ 59 ∷ 77 ∷ 59 ∷ 51 ∷ []) (always 6)
+    ∷ Case.wrong (49 ∷ 59 ∷ 77 ∷ 59 ∷ 49 ∷ []) (always 5)
+    ∷ Case.wrong (51 ∷ 59 ∷ 109 ∷ 77 ∷ []) (either 2 3) ∷ []
 
 abbrev pub chains : List Case
 chains =

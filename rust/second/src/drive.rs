@@ -344,7 +344,7 @@ impl Call<'_> {
     }
 }
 
-/// Where the byte at the place is of a sort that can not stand there at all.
+/// Where the byte at the place is of a sort that cannot stand there at all.
 const OTHER_BYTE: &str = "kind refused at a byte of another sort";
 
 fn semicolons(text: &[u8]) -> usize {
@@ -533,4 +533,22 @@ pub fn run(lib: &dyn Library, cases: u64, seed: u64) -> Result<Tally, String> {
         one_case(lib, &mut rng, &mut tally).map_err(|what| format!("seed {seed}, case {case}: {what}"))?;
     }
     Ok(tally)
+}
+
+/// Reads every text of `TRIED`, as a set of each kind, into a block that has no room for a record: how many reads.
+pub fn every_text(lib: &dyn Library) -> Result<usize, String> {
+    let texts: Vec<Vec<u8>> = gen::TRIED.iter().flat_map(gen::Tried::texts).collect();
+    let block = crate::make(&[0; HEADER]).1;
+    for kind in 1..=KINDS as u64 {
+        for text in &texts {
+            let (number, value, after) = crate::read(&block, kind, 0, text);
+            let mut b = block.clone();
+            let got = lib.read(&mut b, kind, 0, text);
+            if got != packed(number, value) || b != after {
+                let text = String::from_utf8_lossy(text);
+                return Err(format!("read {kind} {text}: returned {}, {} where {number}, {value} is right", got >> 32, got as u32));
+            }
+        }
+    }
+    Ok(KINDS * texts.len())
 }

@@ -341,3 +341,40 @@ fn damage_text(rng: &mut Rng, text: &mut Vec<u8>) {
         _ => text.extend([b';', b'9', b';', rng.pick(&LETTERS)]),
     }
 }
+
+/// Texts that are tried one and all: those that go on from a head by at most so many of these bytes.
+pub struct Tried {
+    pub head: &'static str,
+    pub bytes: &'static [u8],
+    pub most: usize,
+}
+
+const fn after(head: &'static str) -> Tried {
+    Tried { head, bytes: b"01234569;MPm", most: 3 }
+}
+
+/// Short texts of the digits of 1023 and 1024, a semicolon, two letters, a small one, and a byte that is in no text; then what
+/// goes on, with more digits, from heads after which ids, counts and letters come to their ends.
+pub const TRIED: [Tried; 8] = [
+    Tried { head: "", bytes: b"01234;MRmx", most: 5 },
+    after("3;M6553"),
+    after("102"),
+    after("99;M;"),
+    after("399;M;"),
+    after("1021;M;10"),
+    after("1022;M2;102"),
+    after("1023;MUP"),
+];
+
+impl Tried {
+    /// All of them, the shorter first.
+    pub fn texts(&self) -> Vec<Vec<u8>> {
+        let mut longest = vec![self.head.as_bytes().to_vec()];
+        let mut texts = longest.clone();
+        for _ in 0..self.most {
+            longest = longest.iter().flat_map(|text| self.bytes.iter().map(|&byte| [&text[..], &[byte]].concat())).collect();
+            texts.extend(longest.clone());
+        }
+        texts
+    }
+}

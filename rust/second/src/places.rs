@@ -2,6 +2,7 @@
 //! few bytes, is looked up among the beginnings of the texts of all sets.
 
 use super::*;
+use crate::gen::{Tried, TRIED};
 use std::collections::HashSet;
 
 type Set = BTreeMap<u16, Counts>;
@@ -93,38 +94,20 @@ fn shown(mut id: u16, digits: usize) -> u16 {
     id
 }
 
-/// All texts of at most so many of these bytes.
-fn texts(bytes: &[u8], most: usize) -> Vec<Vec<u8>> {
-    let mut longest = vec![vec![]];
-    let mut texts = longest.clone();
-    for _ in 0..most {
-        longest = longest.iter().flat_map(|text| bytes.iter().map(|&byte| [&text[..], &[byte]].concat())).collect();
-        texts.extend(longest.clone());
-    }
-    texts
-}
-
-/// Each text of the head and at most so many of these bytes: its place, and whether it is of a set.
-fn compared(kind: usize, head: &'static str, bytes: &[u8], most: usize) {
-    let head = head.as_bytes();
-    let written = Written::new(kind, head, head.len() + most);
+/// Each text that goes on from a head: its place, and whether it is of a set.
+fn compared(kind: usize, tried: &Tried) {
+    let head = tried.head.as_bytes();
+    let written = Written::new(kind, head, head.len() + tried.most);
     assert_eq!(written.place(head), head.len(), "the texts of some sets begin with the head");
-    for tail in texts(bytes, most) {
-        let text = [head, &tail].concat();
+    for text in tried.texts() {
         let told = || format!("{} of kind {}", String::from_utf8_lossy(&text), kind + 1);
         assert_eq!(place(&text, kind), written.place(&text), "{}", told());
         assert_eq!(parse(&text, kind).is_some(), written.texts.contains(&text), "{}", told());
     }
 }
 
-/// Heads after which ids, counts and letters come to their ends.
-const HEADS: [&str; 7] = ["3;M6553", "102", "99;M;", "399;M;", "1021;M;10", "1022;M2;102", "1023;MUP"];
-
-/// Short texts of the digits of 1023 and 1024, a semicolon, two letters, a small one, and a byte that is in no text; then what
-/// goes on from the heads, with more digits.
 fn places_of(kind: usize) {
-    compared(kind, "", b"01234;MRmx", 5);
-    HEADS.iter().for_each(|head| compared(kind, head, b"01234569;MPm", 3));
+    TRIED.iter().for_each(|tried| compared(kind, tried));
 }
 
 #[test]
