@@ -1,23 +1,25 @@
 -- A block is good where its header, its three parts and its tail are, and then only.
-use Prim.Native.Nat.{ℕ, zero, suc, _+_, _-_, _<_, _≤_}
+use Prim.Native.Nat.{ℕ, zero, suc, _+_, _-_, _/_, _%_, _<_, _≤_}
 use mathlib.Core.Path.{_≡_, refl}
 use mathlib.Core.Bool.{Bool, true, false}
 use mathlib.Core.Logic.{⊎-elim}
 use mathlib.Core.List.{List}
 use native.Mathlib.Omega.{arith}
 use borrow.Author.Tests.{eqb-true, eqb-false}
-use lib.Bits.{bitOr, or-add-and, and-le-l, and-le-r}
+use lib.Bits.{bitOr, or-shr, or-mod}
 use lib.Dec.{eqb}
 use lib.ListN.{length, getD, List·getD-eq-default}
 use Rattle.index.specs.declared.Kind.{Kind}
 use Rattle.index.specs.declared.Kind.the-variants.{Membership, Permission, Filter}
 use Rattle.index.specs.Letters.{letterCount, lettersOf}
-use Rattle.index.specs.Block.{place, countAt, from, size, records, Before, Good}
-use Rattle.index.specs.Checks.{Says, Header, Counted, Record, Part, Zero}
+use Rattle.index.specs.Block.{IsName, place, key, id, countAt, from, size, records, Before, Good}
+use Rattle.index.specs.Bytes.{Pair}
+use Rattle.index.specs.Checks.{Says, Header, Counted, Allowed, Part, Zero}
 use Rattle.index.specs.Edits.{fourAt}
 use Rattle.index.proofs.Bytes.{count-out}
-use Rattle.index.proofs.Range.{lt-or-le, from-none, from-more}
+use Rattle.index.proofs.Range.{lt-or-le, from-more}
 use Rattle.index.proofs.Records.{before-spot}
+use Rattle.index.proofs.Seen.{Seen, seen-none, seen-more}
 use Rattle.index.proofs.Together.{together}
 use Rattle.index.proofs.Splice.{good-record}
 
@@ -64,70 +66,100 @@ module _ (b : List ℕ) (i : ℕ) where
   pub counted-of : (s : ℕ) → s ≤ 4 → 0 < fourAt b i s → Counted b i
   counted-of s l h = let w = some b i s h in (s + w .0, omega (arith, w .1), w .2)
 
-  pub small-none : fourAt b i 4 ≡ 0 → (k : ℕ) → 4 ≤ k → countAt b i k ≡ 0
-  small-none e k l = ⊎-elim (λ h. four-none b i 4 e k l h) (λ h. count-out b i k h) (lt-or-le k letterCount)
+  pub after-none : (s : ℕ) → 4 ≤ s → fourAt b i s ≡ 0 → (k : ℕ) → s ≤ k → countAt b i k ≡ 0
+  after-none s l e k m = ⊎-elim (λ h. four-none b i s e k m h) (λ h. count-out b i k (omega arith)) (lt-or-le k (s + 4))
 
-  pub not-counted : fourAt b i 0 ≡ 0 → fourAt b i 4 ≡ 0 → Counted b i → ⊥
-  not-counted d e c =
-      ⊎-elim (λ h. omega (arith, c .2, four-none b i 0 d (c .0) (omega arith) h))
-      (λ h. omega (arith, c .2, small-none e (c .0) h))
+  pub none-after : (s : ℕ) → ((k : ℕ) → s ≤ k → countAt b i k ≡ 0) → fourAt b i s ≡ 0
+  none-after s all =
+      omega
+      (arith, all s (omega arith), all (s + 1) (omega arith), all (s + 2) (omega arith), all (s + 3) (omega arith))
+
+  pub not-counted : fourAt b i 0 ≡ 0 → ((k : ℕ) → 4 ≤ k → countAt b i k ≡ 0) → Counted b i → ⊥
+  not-counted d all c =
+      ⊎-elim (λ h. omega (arith, c .2, four-none b i 0 d (c .0) (omega arith) h)) (λ h. omega (arith, c .2, all (c .0) h))
       (lt-or-le (c .0) 4)
-
-  pub not-allowed : 0 < fourAt b i 4 → ((k : ℕ) → 4 ≤ k → countAt b i k ≡ 0) → ⊥
-  not-allowed h all = let w = some b i 4 h in omega (arith, w .2, all (4 + w .0) (omega arith))
 
 -- ---- a part, record by record
 
-pub part-none : (b : List ℕ) (kind : Kind) (i : ℕ) → Part b kind i i
-part-none b kind i = record { each = λ n l h. absurd (omega arith); rising = λ n l h. absurd (omega arith) }
+pub part-none : {b : List ℕ} {kind : Kind} {i : ℕ} (j : ℕ) → j ≤ i → Part b kind i j
+part-none j l = record { each = λ n k h. absurd (omega arith); rising = λ n k h. absurd (omega arith) }
 
-pub part-more : {b : List ℕ} {kind : Kind} {i n : ℕ} → Part b kind i n → Record b kind n
-    → ((m : ℕ) → i ≤ m → m + 1 ≡ n → Before b m (m + 1)) → Part b kind i (n + 1)
-part-more {b} {kind} {i} {n} p r step =
+-- The records numbered i to n - 1 pass as ones of the kind, but for their names and for the counts that they may not have:
+-- all keys are joined in the high half of `names`, all ids in its low half, and all those counts in `small`.
+pub record Passed (b : List ℕ) (kind : Kind) (i n names small : ℕ) : Type 0 where
+  pub counts : (m : ℕ) → i ≤ m → m < n → Allowed b kind m → Counted b m
+  pub rising : (m : ℕ) → i ≤ m → m + 1 < n → Before b m (m + 1)
+  pub keys : Seen 10 (key b) i n (names / 65536)
+  pub ids : Seen 10 (id b) i n (names % 65536)
+  pub smalls : Seen 0 (λ m. fourAt b m (lettersOf kind)) i n small
+
+pub passed-none : (b : List ℕ) (kind : Kind) (i : ℕ) → Passed b kind i i 0 0
+passed-none b kind i =
     record {
-      each = from-more (Record b kind) i n (p .each) r;
-      rising =
-          λ m l h. ⊎-elim (λ k. p .rising m l k) (λ k. step m l (omega arith)) (lt-or-le (m + 1) n);
+      counts = λ m l h. absurd (omega arith);
+      rising = λ m l h. absurd (omega arith);
+      keys = seen-none 10 (key b) i;
+      ids = seen-none 10 (id b) i;
+      smalls = seen-none 0 (λ m. fourAt b m (lettersOf kind)) i;
     }
 
--- A part of no records, whatever its end.
-pub part-less : {b : List ℕ} {kind : Kind} {i n : ℕ} (j : ℕ) → j ≤ n → Part b kind i n → Part b kind i j
-part-less j l p = record { each = λ n k h. p .each n k (omega arith); rising = λ n k h. p .rising n k (omega arith) }
+pub passed-more : {b : List ℕ} {kind : Kind} {i n names small rank four : ℕ} → i ≤ n → Passed b kind i n names small
+    → (Allowed b kind n → Counted b n) → ((m : ℕ) → i ≤ m → m + 1 ≡ n → Before b m (m + 1))
+    → Pair (id b n) (key b n) rank → four ≡ fourAt b n (lettersOf kind)
+    → Passed b kind i (n + 1) (bitOr names rank) (bitOr small four)
+passed-more {b} {kind} {i} {n} {names} {rank = rank} l p c step r f =
+    record {
+      counts = from-more (λ m. Allowed b kind m → Counted b m) i n (p .counts) c;
+      rising =
+          λ m k h. ⊎-elim (λ o. p .rising m k o) (λ o. step m k (omega arith)) (lt-or-le (m + 1) n);
+      keys =
+          let e : rank / 65536 ≡ key b n = omega arith in
+          rw (or-shr names rank 16, e) (seen-more l (p .keys));
+      ids =
+          let e : rank % 65536 ≡ id b n = omega arith in
+          rw (or-mod names rank 16, e) (seen-more l (p .ids));
+      smalls = rw f (seen-more l (p .smalls));
+    }
+
+pub passed-part : {b : List ℕ} {kind : Kind} {i n names small : ℕ} (j : ℕ) → j ≤ n → Passed b kind i n names small
+    → small ≡ 0 → IsName (names / 65536) → IsName (names % 65536) → Part b kind i j
+passed-part {b} {kind} {n = n} j l p z x y =
+    record {
+      each =
+          λ m k h.
+          let h : m < n = omega arith in
+          let e : fourAt b m (lettersOf kind) ≡ 0 = omega (arith, p .smalls .each-then (omega arith) m k h) in
+          let a = after-none b m (lettersOf kind) (four-letters kind) e in
+          record {
+            key-below = p .keys .each-then x m k h;
+            id-below = p .ids .each-then y m k h;
+            counted = p .counts m k h a;
+            allowed = a;
+          };
+      rising = λ m k h. p .rising m k (omega arith);
+    }
+
+pub part-passed : {b : List ℕ} {kind : Kind} {i j n names small : ℕ} → (i < n → n ≤ j) → Passed b kind i n names small
+    → Part b kind i j → (small ≡ 0) × IsName (names / 65536) × IsName (names % 65536)
+part-passed {b} {kind} {i} {j} {n} l p whole = (
+  omega (arith, p .smalls .only-then (λ m k h. omega (arith, none-after b m (lettersOf kind) (whole .each m k (inside m k h) .allowed)))),
+  p .keys .only-then (λ m k h. whole .each m k (inside m k h) .key-below),
+  p .ids .only-then (λ m k h. whole .each m k (inside m k h) .id-below),
+)
+  where
+    inside : (m : ℕ) → i ≤ m → m < n → m < j
+    inside m k h = omega (arith, l (omega arith))
 
 -- ---- bytes that are zero by their `or`
 
--- The bytes j to t - 1 are zero just where `seen` is.
-pub record Seen (b : List ℕ) (j t seen : ℕ) : Type 0 where
-  pub zero-then : seen ≡ 0 → (n : ℕ) → j ≤ n → n < t → getD b n 0 ≡ 0
-  pub only-then : ((n : ℕ) → j ≤ n → n < t → getD b n 0 ≡ 0) → seen ≡ 0
-
-pub seen-none : (b : List ℕ) (j : ℕ) → Seen b j j 0
-seen-none b j = record { zero-then = λ e. from-none (λ n. getD b n 0 ≡ 0) j; only-then = λ _. refl }
-
-pub seen-more : {b : List ℕ} {j t seen : ℕ} → j ≤ t → Seen b j t seen → Seen b j (t + 1) (bitOr seen (getD b t 0))
-seen-more {b} {j} {t} {seen} l s =
-    record {
-      zero-then =
-          λ e. let z = or-none e in from-more (λ n. getD b n 0 ≡ 0) j t (s .zero-then (z .0)) (z .1);
-      only-then =
-          λ all.
-          let e = s .only-then (λ n k h. all n k (omega arith)) in
-          let f = all t l (omega arith) in
-          rw (e, f);
-    }
-  where
-    or-none : bitOr seen (getD b t 0) ≡ 0 → (seen ≡ 0) × (getD b t 0 ≡ 0)
-    or-none e =
-        omega (arith, or-add-and seen (getD b t 0), and-le-l seen (getD b t 0), and-le-r seen (getD b t 0))
-
-pub seen-all : {b : List ℕ} {j t seen : ℕ} → length b ≤ t → Seen b j t seen → Says (Zero b j) (eqb seen 0)
-seen-all {b} {j} {t} {seen} l s = go (eqb seen 0) refl
+pub zero-seen : (b : List ℕ) {j t seen : ℕ} → length b ≤ t → Seen 0 (λ n. getD b n 0) j t seen → Says (Zero b j) (eqb seen 0)
+zero-seen b {j} {t} {seen} l s = go (eqb seen 0) refl
   where
     go : (r : Bool) → eqb seen 0 ≡ r → Says (Zero b j) r
     go true e =
         λ n k.
-        ⊎-elim (λ h. s .zero-then (eqb-true _ _ e) n k h) (λ h. List·getD-eq-default b 0 {n = n} (omega arith)) (lt-or-le n t)
-    go false e = λ z. eqb-false _ _ e (s .only-then (λ n k h. z n k))
+        ⊎-elim (λ h. omega (arith, s .each-then (omega (arith, eqb-true seen 0 e)) n k h)) (λ h. List·getD-eq-default b 0 {n = n} (omega arith)) (lt-or-le n t)
+    go false e = λ z. eqb-false seen 0 e (omega (arith, s .only-then (λ n k h. omega (arith, z n k))))
 
 -- ---- the whole
 

@@ -10,7 +10,7 @@ use Rattle.index.specs.declared.Kind.the-variants.{Membership, Permissio
 use Rattle.index.specs.Block.{headerLength, from, size, records, Good}
 use Rattle.index.specs.Checks.{Zero}
 use Rattle.index.specs.Edits.{Overwritten, Headed}
-use Rattle.index.proofs.Checked.{part-none, part-less, each-kind, good-of}
+use Rattle.index.proofs.Checked.{part-none, each-kind, good-of}
 use Rattle.index.proofs.Range.{lt-or-le}
 
 module _
@@ -36,5 +36,5 @@ module _
   pub empty-good : ((t : ℕ) → getD b₂ t 0 < 256) → Good b₂
   empty-good bytes =
       good-of bytes (h .header (omega (arith, w .rest .same-length)))
-      (λ K. part-less (from b₂ K + size b₂ K) (omega (arith, none K)) (part-none b₂ K (from b₂ K)))
+      (λ K. part-none (from b₂ K + size b₂ K) (omega (arith, none K)))
       (λ t k. zeros t (omega (arith, empty-records)))

@@ -46,6 +46,7 @@ pub mod Replacing
 pub mod RoundTrip
 pub mod Running
 pub mod Scans
+pub mod Seen
 pub mod SetCalls
 pub mod SetCounts
 pub mod SetRange

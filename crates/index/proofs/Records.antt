@@ -4,26 +4,33 @@ use mathlib.Core.Path.{_≡_, refl, sym, ap, subst, _∙_}
 use mathlib.Core.Bool.{Bool, true, false, cond, _&&_}
 use mathlib.Core.List.{List}
 use mathlib.Core.Logic.{_⊎_, inl, inr, ⊎-elim}
-use native.Mathlib.Nat.{eq-or-lt-of-le, le-of-suc-le-suc}
+use native.Mathlib.Nat.{eq-or-lt-of-le, le-of-suc-le-suc, mul-suc, mul-le-mul-left}
 use native.Mathlib.Numerals.{add-one}
 use native.Mathlib.Omega.{arith}
 use native.Mathlib.Decide.{ℕ-discrete}
-use borrow.Author.Tests.{eqb-true, eqb-false, eq-eqb, ne-eqb}
+use borrow.Author.Tests.{eqb-true, eqb-false}
 use lib.Dec.{eqb}
-use lib.ListN.{length, getD}
 use Rattle.index.specs.declared.Kind.{Kind}
 use Rattle.index.specs.declared.Kind.the-variants.{Membership, Permission, Filter}
-use Rattle.index.specs.Block.{nameCount, number, size, from, records, key, id, countAt, countFrom, count, Of, Before, Good}
+use Rattle.index.specs.Block.{size, from, records, key, id, countAt, countFrom, count, Of, Before, Good}
 use Rattle.index.specs.Places.{spot, At}
 use Rattle.index.proofs.Range.{lt-or-le}
 
-pub before-spot : (b : List ℕ) (i j : ℕ) → id b i < nameCount → Before b i j → spot b i < spot b j
-unfolding Before
-before-spot b i j h = ⊎-elim (λ l. omega arith) (λ e. omega arith)
+one-more : (w : ℕ) {x y : ℕ} → x < y → w * x + w ≤ w * y
+one-more w h = rw mul-suc at (mul-le-mul-left w h)
 
-pub spot-before : (b : List ℕ) (i j : ℕ) → id b j < nameCount → spot b i < spot b j → Before b i j
-unfolding Before
-spot-before b i j h l = ⊎-elim (λ k. inl k) (λ k. inr (omega arith)) (lt-or-le (key b i) (key b j))
+-- Records stand by key and id as one number, whatever w a key counts for, as long as the ids are below it.
+module _ {w : ℕ} (b : List ℕ) (i j : ℕ) where
+  pub before-spot : id b i < w → Before b i j → w * key b i + id b i < w * key b j + id b j
+  unfolding Before
+  before-spot h = ⊎-elim (λ l. omega (arith, one-more w l)) (λ e. rw (e .0) (omega arith))
+
+  pub spot-before : id b j < w → w * key b i + id b i < w * key b j + id b j → Before b i j
+  unfolding Before
+  spot-before h l =
+      ⊎-elim (λ k. inl k)
+      (λ k. inr (⊎-elim (λ e. (sym e, omega (arith, rw e at l))) (λ m. omega (arith, one-more w m)) (eq-or-lt-of-le k)))
+      (lt-or-le (key b i) (key b j))
 
 pub of-records : (kind : Kind) (b : List ℕ) (i : ℕ) → Of b kind i → i < records b
 of-records Membership b i o = omega arith

@@ -1,5 +1,5 @@
 -- For proofs only: what the small functions do to the bytes of a block.
-use Prim.Native.Nat.{ℕ, _+_, _<_, _≤_}
+use Prim.Native.Nat.{ℕ, _+_, _*_, _<_, _≤_}
 use mathlib.Core.Path.{_≡_}
 use mathlib.Core.List.{List}
 use lib.ListN.{length, getD}
@@ -12,6 +12,12 @@ use Rattle.index.specs.Checks.{Header, Record}
 pub record Num (n r : ℕ) : Type 0 where
   pub is : r ≡ n
   pub small : r < 65536
+
+-- r is two 16-bit numbers as one, `low` in its low half and `high` in its high half.
+pub record Pair (low high r : ℕ) : Type 0 where
+  pub is : r ≡ low + 65536 * high
+  pub low-small : low < 65536
+  pub high-small : high < 65536
 
 -- b′ is as long as b, and the same but for the bytes lo to hi - 1.
 pub record Inside (lo hi : ℕ) (b b′ : List ℕ) : Type 0 where

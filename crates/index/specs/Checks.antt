@@ -27,12 +27,16 @@ pub record Header (b : List ℕ) : Type 0 where
 abbrev pub Counted : List ℕ → ℕ → Type 0
 Counted b i = (k : ℕ) × (k < letterCount) × (0 < countAt b i k)
 
+-- Record i has zero in the counts of the letters that the kind has not.
+abbrev pub Allowed : List ℕ → Kind → ℕ → Type 0
+Allowed b kind i = (k : ℕ) → lettersOf kind ≤ k → countAt b i k ≡ 0
+
 -- Record i by itself, as one of the kind.
 pub record Record (b : List ℕ) (kind : Kind) (i : ℕ) : Type 0 where
   pub key-below : IsName (key b i)
   pub id-below : IsName (id b i)
   pub counted : Counted b i
-  pub allowed : (k : ℕ) → lettersOf kind ≤ k → countAt b i k ≡ 0
+  pub allowed : Allowed b kind i
 
 -- The records numbered i to j - 1, as ones of the kind.
 pub record Part (b : List ℕ) (kind : Kind) (i j : ℕ) : Type 0 where

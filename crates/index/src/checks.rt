@@ -8,25 +8,26 @@ use crate::NAMES;
 use crate::RECORD;
 use crate::RIGHTS;
 use crate::letters::letters_of;
-use crate::numbers::count_at;
-use crate::numbers::id_at;
-use crate::numbers::key_at;
 use crate::numbers::number_at;
+use crate::numbers::pair_at;
 use crate::places::first_of;
 use crate::places::size_at;
-use crate::places::spot_at;
 ghost use mathlib.Core.Path.{_≡_};
 ghost use Prim.Native.Nat.{_+_, _≤_};
 ghost use lib.ListN.{length};
-ghost use Rattle.index.specs.Letters.{letterCount};
-ghost use Rattle.index.specs.Block.{headerLength, place, from, size, records, Good};
+ghost use Rattle.index.specs.Letters.{letterCount, lettersOf};
+ghost use Rattle.index.specs.Block.{headerLength, place, key, id, from, size, records, Good};
+ghost use Rattle.index.specs.Bytes.{Pair};
 ghost use Rattle.index.specs.Edits.{fourAt};
-ghost use Rattle.index.specs.Checks.{Says, Header, Record, Part, Zero};
+ghost use Rattle.index.specs.Checks.{Says, Header, Counted, Allowed, Part, Zero};
 ghost use Rattle.index.specs.Calls.{blockNeeds};
 ghost use Rattle.index.specs.Numbers.{Answers};
 
-// Counts are the numbers below this one.
-const COUNTS: usize = 65536;
+// The numbers in a block are below this one.
+const NUMBERS: u32 = 65536;
+
+// Two of them, put together to one number, are below this one.
+const PAIRS: usize = 4294967296;
 
 // The header agrees with the parts, and the parts fit in the block.
 fn header_good(b: &[u8]) -> bool
@@ -67,52 +68,78 @@ fn four_at(b: &[u8], i: usize, k: usize) -> usize
     requires { ⌜ (place (i + 1) ≤ length (now b)) × (k + 4 ≤ letterCount) ⌝ }
     ensures { λ r. ⌜ r ≡ fourAt (now (b .entry)) i k ⌝ }
 {
-    let high = count_at(b, i, k + 2) + COUNTS * count_at(b, i, k + 3);
-    count_at(b, i, k) + COUNTS * (count_at(b, i, k + 1) + COUNTS * high)
+    let at = HEADER + RECORD * i + 4 + 2 * k;
+    (pair_at(b, at) as usize) + PAIRS * (pair_at(b, at + 4) as usize)
 }
 
-// Record i by itself, as one of the kind.
-fn record_good(b: &[u8], kind: Kind, i: usize) -> bool
+// The counts that record i may not have as one of the kind, as one number: those of the small letters, or none.
+fn small_at(b: &[u8], kind: Kind, i: usize) -> usize
     requires { ⌜ place (i + 1) ≤ length (now b) ⌝ }
-    ensures { λ r. ⌜ Says (Record (now (b .entry)) kind i) r ⌝ }
+    ensures { λ r. ⌜ r ≡ fourAt (now (b .entry)) i (lettersOf kind) ⌝ }
 {
-    if key_at(b, i) >= NAMES {
-        return false;
+    if letters_of(kind) >= LETTER_COUNT {
+        return 0;
     }
-    if id_at(b, i) >= NAMES {
-        return false;
-    }
-    if four_at(b, i, RIGHTS) == 0 {
-        if four_at(b, i, 0) == 0 {
-            return false;
-        }
+    four_at(b, i, RIGHTS)
+}
+
+// Whether record i has a count above zero, provided that it has no count which it may not have as one of the kind.
+fn has_count(b: &[u8], kind: Kind, i: usize) -> bool
+    requires { ⌜ place (i + 1) ≤ length (now b) ⌝ }
+    ensures { λ r. ⌜ (Allowed (now (b .entry)) kind i → Says (Counted (now (b .entry)) i) r) ⌝ }
+{
+    if four_at(b, i, 0) != 0 {
         return true;
     }
     if letters_of(kind) < LETTER_COUNT {
         return false;
     }
+    if four_at(b, i, RIGHTS) == 0 {
+        return false;
+    }
     true
 }
 
-// The records numbered i to j - 1, as ones of the kind. Each stands at `least` or higher by key and id.
+// Key and id of record i as one number, the key in the high half: records rise by it, whatever their keys and ids are.
+fn rank_at(b: &[u8], i: usize) -> u32
+    requires { ⌜ place (i + 1) ≤ length (now b) ⌝ }
+    ensures { λ r. ⌜ Pair (id (now (b .entry)) i) (key (now (b .entry)) i) r ⌝ }
+{
+    let pair = pair_at(b, HEADER + RECORD * i);
+    NUMBERS * (pair % NUMBERS) + pair / NUMBERS
+}
+
+// The records numbered i to j - 1, as ones of the kind. Each stands at `least` or higher by key and id. All keys and ids
+// are joined in `names`, so that after the last record one look at it tells whether they are names. All counts that they
+// may not have are joined in `small`, which must be zero then.
 fn part_good(b: &[u8], kind: Kind, i: usize, j: usize) -> bool
     requires { ⌜ place j ≤ length (now b) ⌝ }
     ensures { λ r. ⌜ Says (Part (now (b .entry)) kind i j) r ⌝ }
 {
     let mut n = i;
     let mut least = 0;
+    let mut names = 0u32;
+    let mut small = 0;
     while n < j {
-        if !record_good(b, kind, n) {
+        let rank = rank_at(b, n);
+        if (rank as usize) < least {
             return false;
         }
-        let spot = spot_at(b, n);
-        if spot < least {
+        if !has_count(b, kind, n) {
             return false;
         }
-        least = spot + 1;
+        names |= rank;
+        small |= small_at(b, kind, n);
+        least = (rank as usize) + 1;
         n += 1;
     }
-    true
+    if small != 0 {
+        return false;
+    }
+    if names / NUMBERS >= (NAMES as u32) {
+        return false;
+    }
+    names % NUMBERS < (NAMES as u32)
 }
 
 // The records of the kind.

@@ -1,25 +1,26 @@
 -- The bytes from j on are zero where their `or` is.
 use Prim.Native.Nat.{_≤_, _-_}
 use borrow.Author.Needs.{needs}
-use lib.ListN.{length}
-use Rattle.index.proofs.Checked.{Seen, seen-none, seen-more, seen-all}
+use lib.ListN.{length, getD}
+use Rattle.index.proofs.Checked.{zero-seen}
+use Rattle.index.proofs.Seen.{Seen, seen-none, seen-more}
 use Rattle.index.proofs.checks.zero_from.Statement.{statement}
 use Rattle.index.proofs.checks.zero_from.Tie as tie
 
 abbrev Inv-loop : tie.InvT-loop
-Inv-loop b j t₀ seen₀ t seen = (j ≤ t) × Seen b j t seen
+Inv-loop b j t₀ seen₀ t seen = (j ≤ t) × Seen 0 (λ n. getD b n 0) j t seen
 
 abbrev μ-loop : tie.MeasureT-loop
 μ-loop b j t₀ seen₀ t seen = length b - t
 
 loop-holds : tie.Need-loop-holds Inv-loop μ-loop
-loop-holds c = (search needs, seen-none _ _)
+loop-holds c = (search needs, seen-none 0 _ _)
 
 loop-again : tie.Need-loop-again Inv-loop μ-loop
 loop-again c = (search needs, seen-more (c .before .before .loop .inv .0) (c .before .before .loop .inv .1))
 
 returns : tie.Need-returns Inv-loop μ-loop
-returns c = seen-all (search needs) (c .before .loop .inv .1)
+returns c = zero-seen (c .before .before .args .b .now) (search needs) (c .before .loop .inv .1)
 
 pub zero-from-spec : {M : Type 1} → statement M
 zero-from-spec =
