@@ -11,7 +11,7 @@
 
 #define PAINT 0xA5u
 #define CHAIN 40u
-#define LIMIT (12u * 1024u)
+#define LIMIT (24u * 1024u)
 
 enum { KEY = 900, FAR = 1000 };
 

@@ -1,4 +1,5 @@
-// What a crate above reads of a block. Every door answers for every input: bytes past the end count as 0.
+// What a crate above reads of a block. Every door answers for every input: bytes past the end count as 0; `pair_of` and `net_of` give 0
+// for a record that the block has not all of.
 
 use crate::HEADER;
 use crate::Kind;
@@ -13,11 +14,14 @@ use crate::letters::SMALL_P;
 use crate::letters::SMALL_R;
 use crate::letters::SMALL_U;
 use crate::letters::mask_of;
+use crate::numbers::count_at;
+use crate::numbers::pair_at;
 ghost use mathlib.Core.Path.{_≡_};
 ghost use Prim.Native.Nat.{_^_, _<_};
+ghost use Rattle.index.specs.Letters.{letterCount};
 ghost use Rattle.index.specs.Block.{number, size, key, id, countAt};
 ghost use Rattle.index.specs.Checks.{Says};
-ghost use Rattle.index.specs.Doors.{Mask, NetAt};
+ghost use Rattle.index.specs.Doors.{Mask, NetAt, Has, PairOf, NetOf};
 
 // The 16-bit number at a byte.
 fn number_of(b: &[u8], at: usize) -> u16
@@ -69,17 +73,39 @@ pub fn count_of(b: &[u8], i: u16, k: u8) -> u16
     0
 }
 
+// The block has all of record i.
+fn whole(b: &[u8], i: usize) -> bool
+    ensures { λ r. ⌜ Says (Has (now (b .entry)) i) r ⌝ }
+{
+    if b.len() < HEADER {
+        return false;
+    }
+    i < (b.len() - HEADER) / RECORD
+}
+
+// Key and id of record i, as one number; 0 where the block has not all of it.
+pub fn pair_of(b: &[u8], i: usize) -> usize
+    ensures { λ r. ⌜ PairOf (now (b .entry)) i r ⌝ }
+{
+    if whole(b, i) {
+        return pair_at(b, HEADER + RECORD * i) as usize;
+    }
+    0
+}
+
 // Letter k has a count above zero in record i.
-fn above_zero(b: &[u8], i: u16, k: u8) -> bool
+fn above_zero(b: &[u8], i: usize, k: u8) -> bool
+    requires { ⌜ Has (now b) i × (k < letterCount) ⌝ }
     ensures { λ r. ⌜ Says (0 < countAt (now (b .entry)) i k) r ⌝ }
 {
-    0 < count_of(b, i, k)
+    0 < count_at(b, i, k as usize)
 }
 
 // The net mask of record i: "its capital letters with a count above zero, less those whose small letter has a count above zero".
 // M-104: "Write it out as four plain decisions, one a right, as 01's sentence has it." Both counts are looked at (`&`, not `&&`),
 // which leaves the processor nothing to guess.
-pub fn net_of(b: &[u8], i: u16) -> u8
+fn net_at(b: &[u8], i: usize) -> u8
+    requires { ⌜ Has (now b) i ⌝ }
     ensures { λ r. ⌜ Mask r (NetAt (now (b .entry)) i) ⌝ }
 {
     let mut net: u8 = 0;
@@ -96,4 +122,14 @@ pub fn net_of(b: &[u8], i: u16) -> u8
         net = net | mask_of(CAPITAL_P);
     }
     net
+}
+
+// The net mask of record i; 0 where the block has not all of it.
+pub fn net_of(b: &[u8], i: usize) -> u8
+    ensures { λ r. ⌜ NetOf (now (b .entry)) i r ⌝ }
+{
+    if whole(b, i) {
+        return net_at(b, i);
+    }
+    0
 }

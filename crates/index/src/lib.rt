@@ -26,6 +26,7 @@ pub use crate::doors::count_of;
 pub use crate::doors::id_of;
 pub use crate::doors::key_of;
 pub use crate::doors::net_of;
+pub use crate::doors::pair_of;
 pub use crate::doors::size_of;
 pub use crate::kinds::kind_of;
 pub use crate::lists::carry_out;

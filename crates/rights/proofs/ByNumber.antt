@@ -1,6 +1,6 @@
 -- A record by its kind, key and id, and by its number.
-use Prim.Native.Nat.{ℕ, _+_, _^_, _<_, _≤_}
-use mathlib.Core.Path.{refl, sym, _∙_}
+use Prim.Native.Nat.{ℕ, _+_, _/_, _%_, _^_, _<_, _≤_}
+use mathlib.Core.Path.{_≡_, refl, sym, _∙_}
 use mathlib.Core.List.{List}
 use mathlib.Core.Logic.{_↔_, ⊎-elim}
 use native.Mathlib.Omega.{arith}
@@ -8,14 +8,27 @@ use Rattle.index.specs.declared.Kind.{Kind}
 use Rattle.index.specs.Letters.{rightCount}
 use Rattle.index.specs.Block.{IsName, records, Of, place, key, id, Good, count}
 use Rattle.index.specs.Places.{At}
-use Rattle.index.specs.Doors.{NetAt}
+use Rattle.index.specs.Doors.{NetAt, Has, PairOf}
 use Rattle.index.proofs.Bytes.{number-small}
 use Rattle.index.proofs.Records.{where-is, count-at, count-none, of-records, no-lower}
 use Rattle.rights.specs.Held.{Is, Net}
+use Rattle.rights.specs.Lookup.{wide}
 
 -- The end of the parts is a 16-bit number.
 pub few : {b : List ℕ} → Good b → place (records b) < 2 ^ 16
 few {b} g = omega (arith, g .end-offset, number-small b 14 (g .bytes))
+
+-- A good block has all of its records.
+pub has-record : {b : List ℕ} → Good b → {i : ℕ} → i < records b → Has b i
+has-record g l = omega (arith, g .fits)
+
+-- Key and id of a record, as the door gives them.
+module _ {b : List ℕ} (g : Good b) {i r : ℕ} (l : i < records b) (told : PairOf b i r) where
+  pub pair-key : r % wide ≡ key b i
+  pair-key = omega (arith, told .whole (has-record g l), number-small b (place i) (g .bytes))
+
+  pub pair-id : r / wide ≡ id b i
+  pair-id = omega (arith, told .whole (has-record g l), number-small b (place i) (g .bytes))
 
 pub at-self : {b : List ℕ} {kind : Kind} {i : ℕ} → Of b kind i → At b kind (key b i) (id b i) i
 at-self of = record { of = of; has-key = refl; has-id = refl }

@@ -1,9 +1,11 @@
 -- What the proofs of several functions use, and the laws that are published.
 mod ByNumber
-mod Filling
+mod Counting
+mod Looking
+mod Starting
+mod Fronts
 mod Rounding
 pub mod MarksAreChains
-mod Looking
 mod Filters
 mod Sifting
 mod Granting

@@ -1,70 +1,119 @@
--- Where the records of a name are, by halving.
-use Prim.Native.Nat.{ℕ, _+_, _<_, _≤_}
+-- Where the records of a name are: by halves to the first of them, and on to the last.
+use Prim.Native.Nat.{ℕ, _+_, _-_, _<_, _≤_}
 use mathlib.Core.Path.{_≡_}
 use mathlib.Core.List.{List}
-use mathlib.Core.Logic.{_↔_, ⊎-elim}
+use mathlib.Core.Logic.{_⊎_, _↔_, inl, inr, ⊎-elim}
 use native.Mathlib.Omega.{arith}
+use native.Mathlib.Nat.{eq-or-lt-of-le}
 use Rattle.index.specs.declared.Kind.{Kind}
-use Rattle.index.specs.Block.{from, size, Of, key, Good}
+use Rattle.index.specs.Block.{IsName, from, size, Of, key, Good}
 use Rattle.index.proofs.Range.{lt-or-le}
-use Rattle.rights.specs.Lookup.{StartsAt}
+use Rattle.rights.specs.Lookup.{KeyBefore, StartsAt}
 use Rattle.rights.proofs.ByNumber.{keys-rise}
 
--- Of the records from lo up to hi, those below low have keys below x, and those from high on have not.
-pub record Narrowed (b : List ℕ) (lo hi x low high : ℕ) : Type 0 where
-  pub left : lo ≤ low
-  pub right : high ≤ hi
-  pub below : (j : ℕ) → lo ≤ j → j < low → key b j < x
-  pub above : (j : ℕ) → high ≤ j → j < hi → x ≤ key b j
+-- A step that is taken or not is no longer than itself.
+pub no-more : {step key x t : ℕ} → (key < x → t ≡ step) × (x ≤ key → t ≡ 0) → t ≤ step
+no-more {step} {key} {x} takes =
+    ⊎-elim (λ l. omega (arith, takes .0 l)) (λ l. omega (arith, takes .1 l)) (lt-or-le key x)
 
-pub narrowed-none : (b : List ℕ) (lo hi x : ℕ) → Narrowed b lo hi x lo hi
-narrowed-none b lo hi x = record {
-  left = omega arith;
-  right = omega arith;
-  below = λ j l h. absurd (omega arith);
-  above = λ j l h. absurd (omega arith);
-}
+-- A window on the records from first up to end: low is the first of them, or one whose key is below x; no record after the
+-- window has a key below x.
+pub record Window (b : List ℕ) (first end x low window : ℕ) : Type 0 where
+  pub from-first : first ≤ low
+  pub starts : (low ≡ first) ⊎ ((low < end) × (key b low < x))
+  pub after : (j : ℕ) → low + window ≤ j → j < end → x ≤ key b j
 
-module _ {b : List ℕ} (kind : Kind) (lo hi x low high : ℕ) (first : lo ≡ from b kind) (end : hi ≡ from b kind + size b kind)
-    (inv : Narrowed b lo hi x low high) where
-  module _ (g : Good b) (middle : ℕ) (l : low ≤ middle) (h : middle < high) where
-    of : Of b kind middle
-    of = omega arith
+-- No part has more records than the window that it begins with.
+pub window-all : (b : List ℕ) (first end x window : ℕ) → end ≤ first + window → Window b first end x first window
+window-all b first end x window few =
+    record { from-first = omega arith; starts = inl (omega arith); after = λ j l h. absurd (omega arith) }
 
-    -- The lower half goes, or the upper.
-    pub halve : (key b middle < x → Narrowed b lo hi x (middle + 1) high) × (x ≤ key b middle → Narrowed b lo hi x low middle)
-    halve = (
-      (λ k. record {
-        left = omega arith;
-        right = inv .right;
-        below = λ j s t. omega (arith, keys-rise g kind j middle (omega arith) (omega arith) of);
-        above = inv .above;
-      }),
-      (λ k. record {
-        left = inv .left;
-        right = omega arith;
-        below = inv .below;
-        above = λ j s t. omega (arith, keys-rise g kind middle j s of (omega arith));
-      }),
-    )
+module _ {b : List ℕ} (g : Good b) (kind : Kind) {x : ℕ} (named : IsName x) {first end : ℕ} (is-first : first ≡ from b kind)
+    (is-end : end ≡ from b kind + size b kind) where
+  -- A key before the end that is below x is that of a record.
+  below-end : {i r : ℕ} → KeyBefore b end i r → r < x → (i < end) × (key b i < x)
+  below-end {i} {r} told less =
+      ⊎-elim (λ l. (l, omega (arith, told .before l))) (λ l. absurd (omega (arith, told .past l))) (lt-or-le i end)
 
-  pub met : low ≤ high → high ≤ low → StartsAt b kind x low
-  met l h = record {
-    low = omega arith;
-    high = omega arith;
-    below = λ j s t. inv .below j (omega arith) t;
-    above = λ j s t. inv .above j (omega arith) (omega arith);
-  }
+  module _ {low window : ℕ} (w : Window b first end x low window) where
+    -- From a record on that is none below x, none is.
+    rest : (i : ℕ) {r : ℕ} → low ≤ i → KeyBefore b end i r → x ≤ r → (j : ℕ) → i ≤ j → j < end → x ≤ key b j
+    rest i l told not-less j s h =
+        let k : x ≤ key b i = omega (arith, told .before (omega arith)) in
+        omega (arith, keys-rise g kind i j s (omega (arith, w .from-first)) (omega (arith, w .from-first)))
 
--- The records of the name are those between the first not below it and the first above it.
-pub keyed : {b : List ℕ} (kind : Kind) (x i e : ℕ) → StartsAt b kind x i → StartsAt b kind (x + 1) e
-    → (j : ℕ) → ((i ≤ j) × (j < e)) ↔ (Of b kind j × (key b j ≡ x))
-keyed {b} kind x i e low next j = (
-  (λ p.
-      let of : Of b kind j = omega (arith, low .low, next .high, p .0, p .1) in
-      (of, omega (arith, low .above j (p .0) (of .1), next .below j (of .0) (p .1)))),
-  (λ p. (
-    ⊎-elim (λ l. absurd (omega (arith, low .below j (p .0 .0) l, p .1))) (λ l. l) (lt-or-le j i),
-    ⊎-elim (λ l. l) (λ l. absurd (omega (arith, next .above j l (p .0 .1), p .1))) (lt-or-le j e),
-  )),
-)
+    -- A step into the window, or none.
+    pub halve : (step : ℕ) {r t : ℕ} → step + step ≤ window → KeyBefore b end (low + step) r
+        → (r < x → t ≡ step) × (x ≤ r → t ≡ 0) → Window b first end x (low + t) (window - step)
+    halve step {r} {t} half told takes =
+        ⊎-elim
+        (λ less.
+        let p = below-end told less in
+        rw (takes .0 less) (record {
+          from-first = omega (arith, w .from-first);
+          starts = inr p;
+          after = λ j l h. w .after j (omega arith) h;
+        }))
+        (λ not-less.
+        let later = rest (low + step) (omega arith) told not-less in
+        let q : low + t ≡ low = omega (arith, takes .1 not-less) in
+        rw q (record { from-first = w .from-first; starts = w .starts; after = λ j l h. later j (omega arith) h }))
+        (lt-or-le r x)
+
+    -- Of a window of one record the record itself is left.
+    pub met : {r t : ℕ} → window ≤ 1 → KeyBefore b end low r → (r < x → t ≡ 1) × (x ≤ r → t ≡ 0) → StartsAt b kind x (low + t)
+    met {r} {t} single told takes =
+        ⊎-elim
+        (λ less.
+        let p = below-end told less in
+        rw (takes .0 less) (record {
+          low = omega (arith, w .from-first);
+          high = omega (arith, p .0);
+          below = λ j l h. omega (arith, p .1, keys-rise g kind j low (omega arith) (omega (arith, p .0)) (omega (arith, w .from-first, p .0)));
+          above = λ j l h. w .after j (omega arith) (omega arith);
+        }))
+        (λ not-less.
+        let later = rest low (omega arith) told not-less in
+        let q : low + t ≡ low = omega (arith, takes .1 not-less) in
+        let at-first : low ≡ first =
+        ⊎-elim (λ e. e) (λ p. absurd (omega (arith, told .before (p .0), p .1))) (w .starts) in
+        rw q (record {
+          low = omega arith;
+          high = omega arith;
+          below = λ j l h. absurd (omega arith);
+          above = λ j l h. later j l (omega arith);
+        }))
+        (lt-or-le r x)
+
+-- ---- on to the last
+
+-- The records from where the name's start up to e are all its own.
+abbrev pub Own : List ℕ → ℕ → ℕ → ℕ → Type 0
+Own b x i e = (j : ℕ) → i ≤ j → j < e → key b j ≡ x
+
+pub own-none : (b : List ℕ) (x i : ℕ) → Own b x i i
+own-none b x i j l h = absurd (omega arith)
+
+pub own-more : (b : List ℕ) (x i e : ℕ) → Own b x i e → key b e ≡ x → Own b x i (e + 1)
+own-more b x i e own here j l h =
+    ⊎-elim (λ q. rw q here) (λ q. own j l q) (eq-or-lt-of-le {n = j} {m = e} (omega arith))
+
+module _ {b : List ℕ} (kind : Kind) (x i e : ℕ) (start : StartsAt b kind x i) where
+  -- They are all of them where the next is not its own, or is none.
+  pub keyed : Good b → i ≤ e → e ≤ from b kind + size b kind → Own b x i e
+      → (e ≡ from b kind + size b kind) ⊎ (key b e ≡ x → ⊥) → (j : ℕ) → ((i ≤ j) × (j < e)) ↔ (Of b kind j × (key b j ≡ x))
+  keyed g l h own stop j = (
+    (λ p. ((omega (arith, start .low, p .0), omega (arith, p .1)), own j (p .0) (p .1))),
+    (λ p. (
+      ⊎-elim (λ q. absurd (omega (arith, start .below j (p .0 .0) q, p .1))) (λ q. q) (lt-or-le j i),
+      ⊎-elim (λ q. q) (λ q. absurd (past j (p .0) (p .1) q)) (lt-or-le j e),
+    )),
+  )
+    where
+      past : (j : ℕ) → Of b kind j → key b j ≡ x → e ≤ j → ⊥
+      past j of same q =
+          ⊎-elim (λ z. omega (arith, of .1))
+          (λ ne.
+          let at : Of b kind e = (omega (arith, start .low), omega (arith, of .1)) in
+          ne (omega (arith, start .above e l (at .1), keys-rise g kind e j q at of)))
+          stop

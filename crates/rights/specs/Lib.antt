@@ -4,3 +4,4 @@ pub mod Questions
 -- What only proofs need.
 pub mod Marks
 pub mod Lookup
+pub mod Fronts

@@ -9,6 +9,21 @@ use Rattle.index.specs.Block.{nameCount, Of, key, from, size}
 use Rattle.rights.specs.declared.lookup.Span.{Span}
 use Rattle.rights.specs.Held.{Is, Net}
 
+-- Keys and ids, of 16 bits, are below this number.
+abbrev pub wide : ℕ
+wide = 65536
+
+-- The records of the kind are those of the span.
+pub record PartOf (b : List ℕ) (kind : Kind) (span : Span) : Type 0 where
+  pub first : span .from ≡ from b kind
+  pub last : span .end ≡ from b kind + size b kind
+
+-- r is the key of record i, if it is before the end, or else a number that is below no name.
+pub record KeyBefore (b : List ℕ) (end i r : ℕ) : Type 0 where
+  pub before : i < end → r ≡ key b i
+  pub past : end ≤ i → r + 1 ≡ wide
+  pub small : r < wide
+
 -- The keys from x on start at number i: the records of the kind below it have keys below x, and the others have not.
 pub record StartsAt (b : List ℕ) (kind : Kind) (x i : ℕ) : Type 0 where
   pub low : from b kind ≤ i

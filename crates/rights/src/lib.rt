@@ -3,7 +3,6 @@
 mod filter;
 mod grants;
 mod lookup;
-mod nets;
 mod questions;
 mod walk;
 
@@ -13,8 +12,11 @@ pub use crate::questions::rights_of;
 // A chain has at most so many records.
 pub const LIMIT: usize = 32;
 
-// A block has room for so many records at most.
-pub(crate) const ROOM: usize = (index::GREATEST - index::HEADER) / index::RECORD;
+// A list of names has room for each, and for one that is put at its end and may not stay.
+pub(crate) const LIST: usize = index::NAMES + 1;
+
+// Stands for the number of a record that has not been looked up; no good block has a record of this number.
+pub(crate) const UNKNOWN: u16 = 65535;
 
 // The answer to the full question: the rights held, or the number of the refusal.
 pub enum Rights {

@@ -44,8 +44,8 @@ pub fn rights_of(block: &[u8], user: u64, object: u64, request: u64) -> Rights
     if number != 0 {
         return Rights::Refused(number);
     }
-    let wanted = filter_of(block, object as u16) & (request as u8);
-    Rights::Held(granted(block, user as u16, object as u16, wanted))
+    let wanted = filter_of(block, object as usize) & (request as u8);
+    Rights::Held(granted(block, user as usize, object as usize, wanted))
 }
 
 // The short question: whether the user holds every requested right on the object.
@@ -57,10 +57,10 @@ pub fn may(block: &[u8], user: u64, object: u64, request: u64) -> Answer
         return Answer::Refused(number);
     }
     let wanted = request as u8;
-    if filter_of(block, object as u16) & wanted != wanted {
+    if filter_of(block, object as usize) & wanted != wanted {
         return Answer::No;
     }
-    if granted(block, user as u16, object as u16, wanted) == wanted {
+    if granted(block, user as usize, object as usize, wanted) == wanted {
         return Answer::Yes;
     }
     Answer::No

@@ -1,16 +1,17 @@
 -- `filter::filter_of` meets its contract. The loop's invariant: what the object's own F records let through, narrowed by those of
 -- the groups of the M records before i.
-use Prim.Native.Nat.{_-_, _≤_}
+use Prim.Native.Nat.{_-_, _/_, _≤_}
 use mathlib.Core.Path.{_≡_}
 use mathlib.Core.Logic.{_⊎_, inl, inr}
 use borrow.Author.Needs.{needs}
 use Rattle.index.specs.declared.Kind.the-variants.{Membership}
-use Rattle.index.specs.Block.{id}
+use Rattle.index.specs.Block.{id, Of, Good}
 use Rattle.index.specs.Doors.{Mask}
 use Rattle.index.proofs.Masks.{in-all, mask-map}
+use Rattle.index.proofs.Records.{of-records}
 use Rattle.rights.specs.Held.{Passes}
 use Rattle.rights.specs.Lookup.{Lets}
-use Rattle.rights.proofs.ByNumber.{id-name}
+use Rattle.rights.proofs.ByNumber.{id-name, pair-id}
 use Rattle.rights.proofs.Filters.{passes}
 use Rattle.rights.proofs.Sifting.{Sifted, sifted-none, sifted-more, sifted-all}
 use Rattle.rights.proofs.filter.filter_of.Statement.{statement}
@@ -28,18 +29,26 @@ loop-holds c =
     let own = mask-map (c .before .narrowed .ensures) _ (λ k h. ((λ p. p .0), (λ l. (l, in-all k h)))) in
     sifted-none (c .records-of .result) own (c .records-of .ensures)
 
+-- The M record at hand, and its id.
+module _ (c : tie.After-pair-of Inv-loop μ-loop) where
+  good : Good (c .before .before .before .before .before .before .before .args .block .now)
+  good = c .before .before .before .before .before .before .before .pre .1 .0
+
+  of : Of (c .before .before .before .before .before .before .before .args .block .now) Membership (c .before .before .before .loop .i)
+  of = c .before .before .before .before .records-of .ensures (c .before .before .before .loop .i) .0 (c .before .before .before .loop .inv .low, c .before .before .loop-test .taken) .0
+
+  is-id : c .pair-of .result / 65536 ≡ id (c .before .before .before .before .before .before .before .args .block .now) (c .before .before .before .loop .i)
+  is-id = pair-id good (of-records Membership _ _ of) (c .pair-of .ensures)
+
 narrowed-requires-2 : tie.Need-narrowed-requires-2 Inv-loop μ-loop
 narrowed-requires-2 c κs =
-    let good = c .before .before .before .before .before .before .before .pre .0 in
-    let loop = c .before .before .before .loop in
-    let of = c .before .before .before .before .records-of .ensures (loop .i) .0 (loop .inv .low, c .before .before .loop-test .taken) .0 in
-    (good, (rw (c .id-of .ensures) (id-name good Membership of), loop .inv .rights .0))
+    (c .before .before .before .before .before .before .before .pre .0, (good c, (rw (is-id c) (id-name (good c) Membership (of c)), c .before .before .before .loop .inv .rights .0)))
 
 loop-again : tie.Need-loop-again Inv-loop μ-loop
 loop-again c =
     let records-of = c .before .before .before .before .before .records-of in
     sifted-more (records-of .result) (c .before .before .before .before .loop .inv) (records-of .ensures) (c .before .before .before .loop-test .taken)
-    (rw (← c .before .id-of .ensures) (c .narrowed2 .ensures))
+    (rw (← is-id (c .before)) (c .narrowed2 .ensures))
 
 -- The loop is left once all groups were seen, or nothing is left.
 module _ (c : tie.At-loop Inv-loop μ-loop) where
@@ -49,7 +58,7 @@ module _ (c : tie.At-loop Inv-loop μ-loop) where
   ended : (c .before .records-of .result .end ≤ c .loop .i) ⊎ (c .loop .left ≡ 0) → Mask (c .loop .left) (Passes (start .args .block .now) (start .args .object))
   ended seen =
       let records-of = c .before .records-of in
-      mask-map (sifted-all (records-of .result) (c .loop .inv) (records-of .ensures) seen) _ (λ k h. passes (start .pre .0) k (start .args .object))
+      mask-map (sifted-all (records-of .result) (c .loop .inv) (records-of .ensures) seen) _ (λ k h. passes (start .pre .1 .0) k (start .args .object))
 
 returns : tie.Need-returns Inv-loop μ-loop
 returns c = ended (c .before) (inl (c .loop-test .left))

@@ -1,83 +1,78 @@
 -- `grants::search` meets its contract. The invariant of both loops: what was searched up to the name and the record at hand.
-use Prim.Native.Nat.{_-_}
-use mathlib.Core.Path.{_∙_}
+use Prim.Native.Nat.{ℕ, _-_, _%_, _/_}
+use mathlib.Core.Path.{_≡_, _∙_}
 use mathlib.Core.Logic.{⊎-elim}
 use native.Mathlib.Omega.{arith}
 use borrow.Author.Needs.{needs}
 use Rattle.index.specs.declared.Kind.the-variants.{Permission}
-use Rattle.index.specs.Block.{Of}
-use Rattle.rights.proofs.ByNumber.{few, id-name, keys-rise}
+use Rattle.index.specs.Block.{Of, key, id}
+use Rattle.index.proofs.Records.{of-records}
+use Rattle.rights.proofs.ByNumber.{id-name, keys-rise, pair-key, pair-id}
 use Rattle.rights.proofs.Granting.{Searched, searched-none, next-name, next-record, skip-record, seen-all, found-all}
 use Rattle.rights.proofs.grants.search.Statement.{statement}
 use Rattle.rights.proofs.grants.search.Tie as tie
 
 abbrev Inv-loop : tie.InvT-loop
-Inv-loop block users objects request i₀ end found₀ g at mark g-end i found = Searched block users objects g i found
+Inv-loop block users objects request part i₀ found₀ g mark g-end i found = Searched block users objects g i found
 
 abbrev μ-loop : tie.MeasureT-loop
-μ-loop block users objects request i₀ end found₀ g at mark g-end i found = end - i
+μ-loop block users objects request part i₀ found₀ g mark g-end i found = part .end - i
 
 abbrev Inv-search : tie.InvT-search
-Inv-search block users objects request i₀ end found₀ g₀ g-end i found g = Searched block users objects g i found
+Inv-search block users objects request part i₀ found₀ g₀ g-end i found g = Searched block users objects g i found
 
 abbrev μ-search : tie.MeasureT-search
-μ-search block users objects request i₀ end found₀ g₀ g-end i found g = g-end - g
-
-add-end : tie.Need-add-end Inv-loop μ-loop Inv-search μ-search
-add-end c = omega (arith, few (c .before .before .before .before .pre))
+μ-search block users objects request part i₀ found₀ g₀ g-end i found g = g-end - g
 
 search-holds : tie.Need-search-holds Inv-loop μ-loop Inv-search μ-search
 search-holds c =
-    let args = c .before .before .before .before .args in
-    rw (c .before .size-of .ensures) (searched-none (args .block .now) (args .users .now) (args .objects .now) _ (λ j of. c .before .before .names-granted-on .ensures .within j of .0))
+    let args = c .before .before .before .args in
+    rw (c .part-of .ensures .first) (searched-none (args .block .now) (args .users .now) (args .objects .now) _ (λ j of. c .before .names-granted-on .ensures .within j of .0))
 
-element-copy-out-mark : tie.Need-element-copy-out-mark Inv-loop μ-loop Inv-search μ-search
-element-copy-out-mark c = omega (arith, c .before .before .before .before .names-granted-on .ensures .names)
-
-search-again : tie.Need-search-again Inv-loop μ-loop Inv-search μ-search
-search-again c = next-name (c .before .before .before .search .inv) (λ j of l e. c .if1 .taken)
-
--- The start of the function, seen from a record's turn, and that the record is a P record.
-module _ (c : tie.In-loop Inv-loop μ-loop Inv-search μ-search) where
+-- The record at hand is a P record; its names.
+module _ (c : tie.After-pair-of Inv-loop μ-loop Inv-search μ-search) where
   abbrev start : tie.Start Inv-loop μ-loop Inv-search μ-search
-  start = c .before .before .before .before .before .before .before .before .before .before
+  start = c .before .before .before .before .before .before .before .before .before .before .before
 
-  of : Of (start .args .block .now) Permission (c .before .loop .i)
-  of = (c .before .loop .inv .low, omega arith)
+  abbrev i : ℕ
+  i = c .before .before .before .loop .i
 
-element-copy-out-grant : tie.Need-element-copy-out-grant Inv-loop μ-loop Inv-search μ-search
-element-copy-out-grant c = let at = c .before .before .before .before in rw (c .id-of .ensures) (id-name (start at .pre) Permission (of at))
+  of : Of (start .args .block .now) Permission i
+  of = (c .before .before .before .loop .inv .low, omega (arith, c .before .if2 .taken, c .before .before .before .before .before .before .before .before .part-of .ensures .last))
 
-add-i : tie.Need-add-i Inv-loop μ-loop Inv-search μ-search
-add-i c = let at = c .before .before .before in omega (arith, few (start at .pre), of at .1)
+  is-key : c .pair-of .result % 65536 ≡ key (start .args .block .now) i
+  is-key = pair-key (start .pre) (of-records Permission _ _ of) (c .pair-of .ensures)
+
+  is-id : c .pair-of .result / 65536 ≡ id (start .args .block .now) i
+  is-id = pair-id (start .pre) (of-records Permission _ _ of) (c .pair-of .ensures)
 
 loop-again : tie.Need-loop-again Inv-loop μ-loop Inv-search μ-search
 loop-again c =
-    let at = c .before .before .before in
-    let s = at .before .loop .inv in
-    let key = c .before .before .key-of .ensures in
-    ⊎-elim (λ w. rw (w .5) (next-record s (of at) (w .0 .taken ∙ key) (w .1 .ensures) (w .3 .ensures)))
-    (λ w. rw (w .1) (skip-record s (of at) (omega (arith, key, c .before .if2 .left, w .0 .left))))
-    (c .if3 .came)
+    let h = c .before .before in
+    let s = h .before .before .before .loop .inv in
+    ⊎-elim (λ w. rw (w .4) (next-record s (of h) (w .0 .taken ∙ is-key h) (is-id h) (w .2 .ensures)))
+    (λ w. rw (w .1) (skip-record s (of h) (omega (arith, is-key h, c .before .if3 .left, w .0 .left))))
+    (c .if4 .came)
 
 search-again-2 : tie.Need-search-again-2 Inv-loop μ-loop Inv-search μ-search
 search-again-2 c =
-    next-name (c .before .loop .inv)
+    let start = c .before .before .before .before .before .before .before .before .before .before in
+    next-name (c .before .before .loop .inv)
     (λ j later l e.
     absurd
-    (⊎-elim (λ w. omega (arith, later .1, w .left))
+    (⊎-elim (λ w. omega (arith, later .1, w .left, c .before .before .before .before .before .before .before .part-of .ensures .last))
     (λ w.
-    let here = of (record { before = c .before; loop-test = w .0 }) in
-    omega (arith, w .1 .ensures, w .2 .taken, keys-rise (c .before .before .before .before .before .before .before .before .before .before .pre) Permission _ j l here later)) (c .loop-test .came)))
+    let h : tie.After-pair-of Inv-loop μ-loop Inv-search μ-search = record { before = record { before = c .before; if2 = w .0 }; pair-of = w .1 } in
+    omega (arith, is-key h, w .2 .taken, keys-rise (start .pre) Permission (i h) j l (of h) later)) (c .if2 .came)))
 
 returns : tie.Need-returns Inv-loop μ-loop Inv-search μ-search
 returns c =
-    let good = c .before .before .before .before .before .before .before .pre in
-    let args = c .before .before .before .before .before .before .before .args in
-    ⊎-elim (λ w. rw (w .2) (seen-all (c .before .before .search .inv) good (λ j of. omega (arith, c .before .before .before .before .before .names-granted-on .ensures .within j of .1, w .0 .left)) (args .request)))
+    let start = c .before .before .before .before .before .before in
+    let request = start .args .request in
+    ⊎-elim (λ w. rw (w .2) (seen-all (c .before .before .search .inv) (start .pre) (λ j of. omega (arith, c .before .before .before .before .names-granted-on .ensures .within j of .1, w .0 .left)) request))
     (λ w.
-    let here : Of (args .block .now) Permission (w .3 .i) = (w .3 .inv .low, omega (arith, w .4 .taken)) in
-    rw (w .13) (found-all (next-record (w .3 .inv) here (w .7 .taken ∙ w .5 .ensures) (w .8 .ensures) (w .10 .ensures)) good (args .request) (w .11 .taken)))
+    let h : tie.After-pair-of Inv-loop μ-loop Inv-search μ-search = record { before = record { before = record { before = record { before = record { before = record { before = record { before = c .before .before; search-test = w .0 }; mark = w .1 }; if1 = w .2 }; loop = w .3 }; struct-known = w .4 }; if2 = w .5 }; pair-of = w .6 } in
+    rw (w .13) (found-all (next-record (w .3 .inv) (of h) (w .8 .taken ∙ is-key h) (is-id h) (w .10 .ensures)) (start .pre) request (w .11 .taken)))
     (c .before .search-test .came)
 
 pub search-spec : {M : Type 1} → statement M
@@ -90,21 +85,16 @@ search-spec =
     μ-search
     (λ c κs. search needs)
     (λ c κs. search needs)
-    (λ c κs. search needs)
-    add-end
     search-holds
+    (λ c. omega (arith, c .before .before .before .names-granted-on .ensures .names))
     (λ c. search needs)
-    element-copy-out-mark
     (λ c. search needs)
-    (λ c. search needs)
-    search-again
-    (λ c. search needs)
+    (λ c. next-name (c .before .before .before .search .inv) (λ j of l e. c .if1 .taken))
+    (λ c. c .before .before .before .search .inv)
     (λ c κs. search needs)
-    (λ c κs. search needs)
+    (λ c. rw (is-id (c .before .before)) (id-name (start (c .before .before) .pre) Permission (of (c .before .before))))
+    (λ c κs. (start (c .before .before .before) .pre, of (c .before .before .before)))
     (λ c. search needs)
-    element-copy-out-grant
-    (λ c κs. search needs)
-    add-i
     (λ c. search needs)
     loop-again
     (λ c. search needs)

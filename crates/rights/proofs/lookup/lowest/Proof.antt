@@ -1,78 +1,52 @@
--- `lookup::lowest` meets its contract. The loop's invariant: what is known of the records outside the two bounds.
-use Prim.Native.Nat.{_+_, _-_, _/_, _^_, _<_, _≤_}
+-- `lookup::lowest` meets its contract. The loop's invariant: what is known of the records outside the window.
+use Prim.Native.Nat.{_+_, _-_, _/_, _≤_}
 use native.Mathlib.Omega.{arith}
 use borrow.Author.Needs.{needs}
-use Rattle.index.specs.Block.{from, size}
+use Rattle.index.specs.Block.{Sized, from, size, records}
 use Rattle.index.proofs.Records.{gap-in}
-use Rattle.rights.proofs.ByNumber.{few}
-use Rattle.rights.proofs.Looking.{Narrowed, narrowed-none, halve, met}
+use Rattle.rights.proofs.Looking.{no-more, Window, window-all, halve, met}
 use Rattle.rights.proofs.lookup.lowest.Statement.{statement}
 use Rattle.rights.proofs.lookup.lowest.Tie as tie
 
 abbrev Inv-loop : tie.InvT-loop
-Inv-loop block name low₀ high₀ low high = (low ≤ high) × (high₀ < 2 ^ 16) × Narrowed block low₀ high₀ name low high
+Inv-loop block name part low₀ window₀ low window =
+    (1 ≤ window) × (low + window ≤ part .from + 2048) × Window block (part .from) (part .end) name low window
 
 abbrev μ-loop : tie.MeasureT-loop
-μ-loop block name low₀ high₀ low high = high - low
+μ-loop block name part low₀ window₀ low window = window
 
--- The part ends within the records, whose number is small.
-ends : (c : tie.After-size-of Inv-loop μ-loop) → c .before .first-of .result + c .size-of .result < 2 ^ 16
+-- The part is one of the block's, which has room for 2,048 records.
+ends : (c : tie.After-part-of Inv-loop μ-loop) → (c .part-of .result .end ≤ records (c .before .before .args .block .now)) × (records (c .before .before .args .block .now) ≤ 2048)
+unfolding Sized
 ends c =
-    let start = c .before .before .before in
+    let start = c .before .before in
     let b = start .args .block .now in
     let kind = start .args .kind in
-    omega (
-      arith,
-      few (start .pre),
-      c .before .first-of .ensures,
-      c .size-of .ensures,
-      gap-in kind b (from b kind + size b kind) (omega arith),
-    )
-
-add-high : tie.Need-add-high Inv-loop μ-loop
-add-high c = omega (arith, ends c)
+    (omega (arith, c .part-of .ensures .last, gap-in kind b (from b kind + size b kind) (omega arith)), omega (arith, start .pre .0 .1, start .pre .1 .0 .fits))
 
 loop-holds : tie.Need-loop-holds Inv-loop μ-loop
 loop-holds c =
-    let start = c .before .before .before in (
-      omega arith,
-      ends c,
-      narrowed-none (start .args .block .now) (c .before .first-of .result) (c .before .first-of .result + c .size-of .result) (start .args .name),
-    )
-
--- One turn, whichever half goes.
-turn : (c : tie.After-key-of Inv-loop μ-loop)
-    → let b = c .before .before .before .before .before .before .args .block .now in
-    let name = c .before .before .before .before .before .before .args .name in
-    let lo = c .before .before .before .before .first-of .result in
-    let loop = c .before .before .loop in
-    let middle = loop .low + (loop .high - loop .low) / 2 in
-    let part = Narrowed b lo (lo + c .before .before .before .size-of .result) name in
-    (c .key-of .result < name → part (middle + 1) (loop .high)) × (name ≤ c .key-of .result → part (loop .low) middle)
-turn c =
-    let start = c .before .before .before .before .before .before in
-    let first-of = c .before .before .before .before .first-of in
-    let size-of = c .before .before .before .size-of in
-    let loop = c .before .before .loop in
-    rw (c .key-of .ensures)
-    (halve (start .args .kind) (first-of .result) (first-of .result + size-of .result) (start .args .name) (loop .low) (loop .high)
-    (first-of .ensures) (omega (arith, first-of .ensures, size-of .ensures)) (loop .inv .2) (start .pre)
-    (loop .low + (loop .high - loop .low) / 2) (omega arith) (omega arith))
+    let part = c .part-of .result in
+    (omega arith, omega arith, window-all _ (part .from) (part .end) _ 2048 (omega (arith, ends c)))
 
 loop-again : tie.Need-loop-again Inv-loop μ-loop
-loop-again c = (omega arith, c .before .before .before .loop .inv .1, turn (c .before) .0 (c .if1 .taken))
-
-loop-again-2 : tie.Need-loop-again-2 Inv-loop μ-loop
-loop-again-2 c = (omega arith, c .before .before .before .loop .inv .1, turn (c .before) .1 (c .if1 .left))
+loop-again c =
+    let loop = c .before .before .before .loop in
+    let told = c .before .before .before .before .part-of .ensures in
+    let start = c .before .before .before .before .before .before in (
+      omega arith,
+      omega (arith, loop .inv .1, no-more (c .taken .ensures)),
+      halve (start .pre .1 .0) (start .args .kind) (start .pre .1 .1) (told .first) (told .last) (loop .inv .2) (loop .window / 2)
+          (omega arith) (c .before .key-before .ensures) (c .taken .ensures),
+    )
 
 returns : tie.Need-returns Inv-loop μ-loop
 returns c =
-    let start = c .before .before .before .before .before in
-    let first-of = c .before .before .before .first-of in
-    let size-of = c .before .before .size-of in
-    let loop = c .before .loop in
-    met (start .args .kind) (first-of .result) (first-of .result + size-of .result) (start .args .name) (loop .low) (loop .high)
-    (first-of .ensures) (omega (arith, first-of .ensures, size-of .ensures)) (loop .inv .2) (loop .inv .0) (omega arith)
+    let loop = c .before .before .before .loop in
+    let told = c .before .before .before .before .part-of .ensures in
+    let start = c .before .before .before .before .before .before in
+    met (start .pre .1 .0) (start .args .kind) (start .pre .1 .1) (told .first) (told .last) (loop .inv .2) (omega arith)
+    (c .before .key-before2 .ensures) (c .taken2 .ensures)
 
 pub lowest-spec : {M : Type 1} → statement M
 lowest-spec =
@@ -81,15 +55,15 @@ lowest-spec =
     Inv-loop
     μ-loop
     (λ c κs. search needs)
-    (λ c κs. search needs)
-    add-high
     loop-holds
-    (λ c. search needs)
-    (λ c. search needs)
-    (λ c κs. search needs)
+    (λ c. omega (arith, ends (c .before .before)))
+    (λ c κs. (c .before .before .before .before .pre .1 .0, ends (c .before .before) .0))
+    (λ c κs. (omega (arith, c .before .before .loop .inv .1), (c .key-before .ensures .small, omega (arith, c .before .before .before .before .before .pre .1 .1))))
+    (λ c. omega (arith, c .before .before .before .loop .inv .1, no-more (c .taken .ensures), ends (c .before .before .before .before)))
     (λ c. search needs)
     (λ c. search needs)
     loop-again
-    (λ c. search needs)
-    loop-again-2
+    (λ c κs. (c .before .before .before .before .pre .1 .0, ends (c .before .before) .0))
+    (λ c κs. (omega arith, (c .key-before2 .ensures .small, omega (arith, c .before .before .before .before .before .pre .1 .1))))
+    (λ c. omega (arith, c .before .before .before .loop .inv .1, no-more (c .taken2 .ensures), ends (c .before .before .before .before)))
     returns)

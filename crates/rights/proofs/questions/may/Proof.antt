@@ -45,11 +45,8 @@ module _ (c : tie.Else1) where
 cast-wanted : tie.Need-cast-wanted
 cast-wanted c = omega (arith, all c .small)
 
-cast-filter-of : tie.Need-cast-filter-of
-cast-filter-of c = omega (arith, all c .object)
-
 filter-of-requires : tie.Need-filter-of-requires
-filter-of-requires c κs = (all c .good, all c .object)
+filter-of-requires c κs = (all c .sized, (all c .good, all c .object))
 
 returns-2 : tie.Need-returns-2
 unfolding AsksAll Short
@@ -62,12 +59,6 @@ returns-2 c =
     let a = all (c .before .before) in
     accepts b u o q (λ n. (n, 0)) (Answered b u o q) (0, 0) a
     (no b u o q (λ h. c .if2 .taken (filtered b u o q (a .small) (mask-limited (c .before .filter-of .ensures) q) h)))
-
-cast-granted : tie.Need-cast-granted
-cast-granted c = omega (arith, all (c .before .before) .user)
-
-cast-granted-2 : tie.Need-cast-granted-2
-cast-granted-2 c = omega (arith, all (c .before .before) .object)
 
 granted-requires : tie.Need-granted-requires
 granted-requires c κs = let a = all (c .before .before) in ((a .sized, a .good), (a .user, a .object))
@@ -110,11 +101,8 @@ may-spec =
     (λ c κs. search needs)
     returns
     cast-wanted
-    cast-filter-of
     filter-of-requires
     returns-2
-    cast-granted
-    cast-granted-2
     granted-requires
     returns-3
     returns-4)

@@ -29,20 +29,11 @@ module _ (c : tie.Else1) where
       asked (start .args .block .now) (start .args .user) (start .args .object) (start .args .request) (c .before .refusal .result)
       (c .if1 .left) (c .before .refusal .ensures)
 
-cast-filter-of : tie.Need-cast-filter-of
-cast-filter-of c = omega (arith, all c .object)
-
 filter-of-requires : tie.Need-filter-of-requires
-filter-of-requires c κs = (all c .good, all c .object)
+filter-of-requires c κs = (all c .sized, (all c .good, all c .object))
 
 cast-wanted : tie.Need-cast-wanted
 cast-wanted c = omega (arith, all (c .before) .small)
-
-cast-granted : tie.Need-cast-granted
-cast-granted c = omega (arith, all (c .before) .user)
-
-cast-granted-2 : tie.Need-cast-granted-2
-cast-granted-2 c = omega (arith, all (c .before) .object)
 
 granted-requires : tie.Need-granted-requires
 granted-requires c κs = let a = all (c .before) in ((a .sized, a .good), (a .user, a .object))
@@ -64,10 +55,7 @@ rights-of-spec =
     (tie.spec
     (λ c κs. search needs)
     returns
-    cast-filter-of
     filter-of-requires
     cast-wanted
-    cast-granted
-    cast-granted-2
     granted-requires
     returns-2)
