@@ -9,6 +9,7 @@ use compare::Archive;
 use plain::{Plain, ALL, CHAIN, HEADER, MESSAGE, NAMES, NEW, OLD, ROOM};
 use second::drive::{Library, TEXT};
 use second::gen::Rng;
+use second::{Index, Part, M};
 use std::env::var;
 use std::ffi::c_int;
 use std::hint::black_box;
@@ -31,6 +32,10 @@ const MEMBERSHIP: u8 = 1;
 const PERMISSION: u8 = 2;
 const FILTER: u8 = 3;
 const READ: u8 = 2;
+
+/// The due list: each of so many people asks for each of so many orders.
+const CALLERS: u64 = 40;
+const ORDERS: u64 = 50;
 
 /// How many memberships, grants and filters a block has, and how many more it has room for.
 struct Size(usize, usize, usize, usize);
@@ -70,6 +75,11 @@ fn empty(library: &dyn Library, room: usize) -> Vec<u8> {
     b
 }
 
+/// Adds to a record of the block, which has room for it.
+fn give(library: &dyn Library, b: &mut [u8], kind: u8, key: u16, id: u16, mask: u8) {
+    assert_eq!(library.message(b, &message(NEW, kind, key, id, mask)), 0);
+}
+
 fn any(rng: &mut Rng, of: Range<u16>) -> u16 {
     of.start + rng.below(of.len() as u64) as u16
 }
@@ -89,16 +99,58 @@ fn block(library: &dyn Library, &Size(memberships, grants, filters, spare): &Siz
                 _ => (object, rng.below(20) as u16),
             };
             let mask = if rng.one_in(3) { ALL } else { READ };
-            assert_eq!(library.message(&mut b, &message(NEW, kind, key, id, mask)), 0);
+            give(library, &mut b, kind, key, id, mask);
         }
     }
     b
 }
 
+/// A membership: key, id and mask.
+type Membership = (u16, u16, u8);
+
+/// A block of a program with these memberships, and grants to and on some names.
+fn shaped(library: &dyn Library, memberships: &[Membership]) -> Vec<u8> {
+    let mut b = empty(library, memberships.len() + 40);
+    for &(key, id, mask) in memberships {
+        give(library, &mut b, MEMBERSHIP, key, id, mask);
+    }
+    for n in 0..40 {
+        give(library, &mut b, PERMISSION, 25 * n, (25 * n + 500) % 1000, ALL);
+    }
+    b
+}
+
+/// Memberships, two for each of some names, by which each of those leads to all of them.
+fn doubled(first: u16, names: u16) -> impl Iterator<Item = Membership> {
+    (0..2 * names).map(move |n| (first + n / 2, first + n % names, ALL))
+}
+
 /// The user and the object of the n-th question.
+type Asked = fn(usize) -> (u64, u64);
+
 fn asked(n: usize) -> (u64, u64) {
     (u64::from(PEOPLE.start) + 9 * (n as u64 % 64), u64::from(OBJECTS.start) + n as u64 % 100)
 }
+
+/// The same, of 1,000 names that are people and objects alike.
+fn spread(n: usize) -> (u64, u64) {
+    (37 * n as u64 % 1000, (61 * n as u64 + 500) % 1000)
+}
+
+/// The same, of the due list.
+fn due(n: usize) -> (u64, u64) {
+    let (caller, order) = (n as u64 % CALLERS, n as u64 / CALLERS % ORDERS);
+    (u64::from(PEOPLE.start) + 15 * caller, u64::from(OBJECTS.start) + 3 * order)
+}
+
+/// How a program is asked about a user and an object.
+type Ask = fn(&dyn Library, &[u8], u64, u64) -> u64;
+
+const TEST: (&str, Ask) = ("the test of the block (a question refused with 4)", |library, b, _, object| {
+    library.rights(b, NAMES as u64, object, ALL.into())
+});
+const FULL_QUESTION: (&str, Ask) = ("the full question", |library, b, user, object| library.rights(b, user, object, ALL.into()));
+const SHORT_QUESTION: (&str, Ask) = ("the short question", |library, b, user, object| library.may(b, user, object, READ.into()));
 
 /// A time as C has it.
 #[repr(C)]
@@ -134,11 +186,11 @@ fn median(values: impl Iterator<Item = f64>) -> f64 {
     values[values.len() / 2]
 }
 
-/// How long each call takes in each round. The calls are timed in turn, there and back, so that a machine that changes its pace
-/// changes them all.
-fn in_turn(calls: &mut [impl FnMut(usize)]) -> Vec<Vec<f64>> {
-    let slowest = calls.iter_mut().map(|call| seconds(GROUP, call)).fold(0.0, f64::max);
-    let times = GROUP * (LONG / (GROUP as f64 * slowest)).ceil() as usize;
+/// How long each call takes in each round, whose calls come in groups of so many. They are timed in turn, there and back, so that
+/// a machine that changes its pace changes them all.
+fn in_turn(calls: &mut [impl FnMut(usize)], group: usize) -> Vec<Vec<f64>> {
+    let slowest = calls.iter_mut().map(|call| seconds(group, call)).fold(0.0, f64::max);
+    let times = group * (LONG / (group as f64 * slowest)).ceil() as usize;
     let mut rounds = vec![vec![0.0; calls.len()]; ROUNDS];
     for (round, taken) in rounds.iter_mut().enumerate() {
         for k in 0..calls.len() {
@@ -175,21 +227,65 @@ impl Programs {
     }
 
     fn title(&self, what: &str) {
-        let (before, line) = if self.0.len() > 2 { (" library / before |", "---|") } else { ("", "") };
-        println!("\n{what}\n\n| call | library / Rust |{before} Rust |\n|---|---|{line}---|");
+        self.headed(what, &["call", "library / Rust"], &["Rust"]);
+    }
+
+    /// A title, and the head of a table with these columns; between them is the one of the archive from before, if there is one.
+    fn headed(&self, what: &str, first: &[&str], last: &[&str]) {
+        let before: &[&str] = if self.0.len() > 2 { &["library / before"] } else { &[] };
+        let columns = [first, before, last].concat();
+        println!("\n{what}\n\n| {} |\n|{}", columns.join(" | "), "---|".repeat(columns.len()));
     }
 }
 
-/// Times a call of each program, and prints the line of it. The blocks are then as they were.
-fn row(what: &str, runners: &mut [Runner], call: impl Fn(&mut Runner, usize)) {
+/// The ratios of a line: to the plain program, and to the archive from before, if there is one.
+fn ratios(rounds: &[Vec<f64>]) -> String {
+    let others = 1..rounds[0].len();
+    others.map(|other| format!("{:.2}", ratio(rounds, 0, other))).collect::<Vec<_>>().join(" | ")
+}
+
+/// How long a call takes, in microseconds.
+fn micros(rounds: &[Vec<f64>], call: usize) -> f64 {
+    median(rounds.iter().map(|taken| taken[call])) * 1e6
+}
+
+/// Times a call of each program, so many in a group. The blocks are then as they were.
+fn timed(runners: &mut [Runner], group: usize, call: impl Fn(&mut Runner, usize)) -> Vec<Vec<f64>> {
     let blocks: Vec<Vec<u8>> = runners.iter().map(|runner| runner.block.clone()).collect();
     let call = &call;
     let mut calls: Vec<_> = runners.iter_mut().map(|runner| move |n| call(runner, n)).collect();
-    let rounds = in_turn(&mut calls);
-    let before = if calls.len() > 2 { format!(" {:.2} |", ratio(&rounds, 0, 2)) } else { String::new() };
-    let rust = median(rounds.iter().map(|taken| taken[1]));
-    println!("| {what} | {:.2} |{before} {:.2} µs |", ratio(&rounds, 0, 1), rust * 1e6);
+    let rounds = in_turn(&mut calls, group);
     assert!(runners.iter().map(|runner| &runner.block).eq(&blocks), "a group of calls leaves the block as it was");
+    rounds
+}
+
+/// Times a call of each program, and prints the line of it.
+fn row(what: &str, runners: &mut [Runner], call: impl Fn(&mut Runner, usize)) {
+    let rounds = timed(runners, GROUP, call);
+    println!("| {what} | {} | {:.2} µs |", ratios(&rounds), micros(&rounds, 1));
+}
+
+/// The n-th call of a program that is asked in this way.
+fn ask(runner: &Runner, kind: Ask, asked: impl Fn(usize) -> (u64, u64), n: usize) {
+    let (user, object) = asked(n);
+    black_box(kind(runner.library, &runner.block, user, object));
+}
+
+/// The lines of some calls that ask.
+fn rows(kinds: &[(&str, Ask)], runners: &mut [Runner], asked: impl Fn(usize) -> (u64, u64) + Copy) {
+    for &(what, kind) in kinds {
+        row(what, runners, |runner, n| ask(runner, kind, asked, n));
+    }
+}
+
+/// Prints how many times the test of the block a question takes. The calls of one program are timed in turn.
+fn in_tests(runners: &[Runner], asked: Asked) {
+    let told = ["the library", "Rust"].iter().zip(runners).map(|(name, runner)| {
+        let mut calls = [TEST, FULL_QUESTION, SHORT_QUESTION].map(|(_, kind)| move |n| ask(runner, kind, asked, n));
+        let rounds = in_turn(&mut calls, GROUP);
+        format!("in {name} {:.2} and {:.2}", ratio(&rounds, 1, 0), ratio(&rounds, 2, 0))
+    });
+    println!("\nThe full and the short question in times the test: {}", told.collect::<Vec<_>>().join(", "));
 }
 
 /// Adds a membership and takes it away again.
@@ -211,17 +307,7 @@ fn in_and_out(what: &str, runners: &mut [Runner], key: u64, text: &[u8]) {
 fn measure(programs: &Programs, name: &str, size: &Size) {
     programs.title(name);
     let mut runners = programs.with(|library| block(library, size));
-    row("the test of the block (a question refused with 4)", &mut runners, |run, n| {
-        black_box(run.library.rights(&run.block, NAMES as u64, asked(n).1, ALL.into()));
-    });
-    row("the full question", &mut runners, |run, n| {
-        let (user, object) = asked(n);
-        black_box(run.library.rights(&run.block, user, object, ALL.into()));
-    });
-    row("the short question", &mut runners, |run, n| {
-        let (user, object) = asked(n);
-        black_box(run.library.may(&run.block, user, object, READ.into()));
-    });
+    rows(&[TEST, FULL_QUESTION, SHORT_QUESTION], &mut runners, asked);
     let (key, id) = (word(&runners[0].block, HEADER), word(&runners[0].block, HEADER + 2));
     there_and_back("a message that changes a count", &mut runners, key, id);
     there_and_back("a message that inserts, or removes, in front of all", &mut runners, 0, 1);
@@ -229,6 +315,37 @@ fn measure(programs: &Programs, name: &str, size: &Size) {
         black_box(run.library.write(&run.block, PERMISSION.into(), n as u64 % u64::from(OBJECTS.end), &mut run.out));
     });
     in_and_out("reading a set of two records, and taking it out", &mut runners, 0, b"3;MR;12;MRU2");
+    in_tests(&runners, asked);
+}
+
+/// Questions about the names of a block with these memberships.
+fn questions(programs: &Programs, name: &str, memberships: &[Membership]) {
+    programs.title(name);
+    let mut runners = programs.with(|library| shaped(library, memberships));
+    rows(&[TEST, FULL_QUESTION, SHORT_QUESTION], &mut runners, spread);
+    in_tests(&runners, spread);
+}
+
+/// The memberships, of which two thirds carry one right only.
+fn thinned(memberships: &[Membership]) -> Vec<Membership> {
+    let mut rng = Rng(42);
+    let mut thin = |mask: u8| if rng.one_in(3) { mask } else { 1 << rng.below(4) };
+    memberships.iter().map(|&(key, id, mask)| (key, id, thin(mask))).collect()
+}
+
+/// The due list, whose questions are asked one after the other: the time of one, and of the list.
+fn due_list(programs: &Programs) {
+    let questions = (CALLERS * ORDERS) as usize;
+    let columns = ["library", "Rust", "library, the list", "Rust, the list"];
+    let what = "The due list: 2,000 questions on the mill's block, of 40 people about 50 orders";
+    programs.headed(what, &["each question", "library / Rust"], &columns);
+    let mut runners = programs.with(|library| block(library, &MILL));
+    for (what, kind) in [FULL_QUESTION, SHORT_QUESTION] {
+        let rounds = timed(&mut runners, questions, |runner, n| ask(runner, kind, due, n));
+        let [library, rust] = [0, 1].map(|program| micros(&rounds, program));
+        let [all, in_rust] = [library, rust].map(|one| one * questions as f64 / 1e3);
+        println!("| {what} | {} | {library:.2} µs | {rust:.2} µs | {all:.1} ms | {in_rust:.1} ms |", ratios(&rounds));
+    }
 }
 
 /// Questions about one object on which all the filters of the mill stand: four on it, and four on each of nine groups of it. Each
@@ -239,17 +356,12 @@ fn bound(programs: &Programs) {
     programs.title("The mill, with its 40 filters on one object and nine groups of it");
     let mut runners = programs.with(|library| {
         let mut b = block(library, &Size(memberships - 9, grants, 0, filters + spare + 9));
-        let mut give = |kind, key, id| assert_eq!(library.message(&mut b, &message(NEW, kind, key, id, ALL)), 0);
-        groups.clone().for_each(|group| give(MEMBERSHIP, object, group));
-        (object..).take(filters / 4).for_each(|key| (0..4).for_each(|id| give(FILTER, key, id)));
+        let mut all = |kind, key, id| give(library, &mut b, kind, key, id, ALL);
+        groups.clone().for_each(|group| all(MEMBERSHIP, object, group));
+        (object..).take(filters / 4).for_each(|key| (0..4).for_each(|id| all(FILTER, key, id)));
         b
     });
-    row("the full question", &mut runners, |run, n| {
-        black_box(run.library.rights(&run.block, asked(n).0, object.into(), ALL.into()));
-    });
-    row("the short question", &mut runners, |run, n| {
-        black_box(run.library.may(&run.block, asked(n).0, object.into(), READ.into()));
-    });
+    rows(&[FULL_QUESTION, SHORT_QUESTION], &mut runners, |n| (asked(n).0, object.into()));
 }
 
 /// Reading a set of 1,000 records into a block with as many records behind it, or refusing its text, and writing it.
@@ -258,9 +370,7 @@ fn large_set(programs: &Programs) {
     programs.title("A set of 1,000 records, with 1,000 records behind it");
     let mut runners = programs.with(|library| {
         let mut b = empty(library, ROOM);
-        for id in 0..1000 {
-            assert_eq!(library.message(&mut b, &message(NEW, PERMISSION, 9, id, READ)), 0);
-        }
+        (0..1000).for_each(|id| give(library, &mut b, PERMISSION, 9, id, READ));
         b
     });
     in_and_out("reading it in, and taking it out", &mut runners, 5, &text);
@@ -277,54 +387,106 @@ fn large_set(programs: &Programs) {
     assert!(runners.iter().all(|run| run.out.starts_with(&text)), "each program writes the text");
 }
 
-/// How the time of a question grows with the number of memberships.
-fn growth(programs: &Programs) {
-    println!("\nThe full question by memberships (200 grants), as multiples of the question with none\n");
-    println!("| memberships | library | Rust |\n|---|---|---|");
-    let grown = |library: &dyn Library, memberships: usize| {
-        let blocks = [memberships, 0].map(|memberships| block(library, &Size(memberships, 200, 20, 10)));
-        let mut calls = blocks.each_ref().map(|b| {
-            move |n: usize| {
-                let (user, object) = asked(n % GROUP);
-                black_box(library.rights(b, user, object, ALL.into()));
-            }
-        });
-        ratio(&in_turn(&mut calls), 0, 1)
-    };
-    for memberships in [250, 500, 1000, 1800] {
-        let (library, rust) = (grown(programs.0[0].as_ref(), memberships), grown(programs.0[1].as_ref(), memberships));
-        println!("| {memberships} | {library:.1} | {rust:.1} |");
+/// A block where a user and an object each reach some names, and neither reaches the others; each name has two memberships.
+struct Reach {
+    own: u16,
+    others: u16,
+}
+
+impl Reach {
+    /// Where the names of the user and those of the object begin.
+    fn starts(&self) -> (u16, u16) {
+        (1 + self.others, 2 + self.others + self.own)
+    }
+
+    fn block(&self, library: &dyn Library) -> Vec<u8> {
+        let (user, object) = self.starts();
+        let own = doubled(user, self.own).chain(doubled(object, self.own));
+        shaped(library, &doubled(1, self.others).chain(own).collect::<Vec<_>>())
+    }
+
+    /// The user and the object of the n-th question.
+    fn asked(&self, n: usize) -> (u64, u64) {
+        let (user, object) = self.starts();
+        let nth = n as u64 % u64::from(self.own.max(1));
+        (u64::from(user) + nth, u64::from(object) + nth)
     }
 }
 
-/// How many rounds of marks a side takes until one changes nothing, of those that the rules allow: all names of the mill.
-fn rounds() {
-    let links = plain::links(&block(&Plain, &MILL));
-    let taken: Vec<usize> = (usize::from(OBJECTS.start)..GROUPS.end.into())
-        .map(|name| {
-            let mut marks = [0u8; NAMES];
-            marks[name] = ALL;
-            let grows = |_: &usize| {
-                let before = marks;
-                links.iter().for_each(|&(key, id, net)| marks[usize::from(id)] |= before[usize::from(key)] & net);
-                marks != before
-            };
-            (1..CHAIN).take_while(grows).count() + 1
-        })
-        .collect();
-    let (sum, most) = (taken.iter().sum::<usize>() as f64, taken.iter().max().unwrap());
-    let average = sum / taken.len() as f64;
-    println!("\nRounds until one changes nothing, in the mill, of {CHAIN}: {average:.1} on average, {most} at most");
+/// How long a full question takes on each block, less the test of the block: as multiples of the first, and of the first in
+/// microseconds.
+fn less_the_test(library: &dyn Library, along: &[Reach]) -> (Vec<f64>, f64) {
+    let blocks: Vec<_> = along.iter().map(|reach| reach.block(library)).collect();
+    let runners = blocks.into_iter().map(|block| Runner { library, block, out: Vec::new() }).collect::<Vec<_>>();
+    let two = |(runner, reach)| [TEST.1, FULL_QUESTION.1].map(|kind| move |n| ask(runner, kind, |n| Reach::asked(reach, n), n));
+    let mut calls: Vec<_> = runners.iter().zip(along).flat_map(two).collect();
+    let rounds = in_turn(&mut calls, GROUP);
+    let less = |taken: &[f64], k: usize| taken[2 * k + 1] - taken[2 * k];
+    let multiple = |k| median(rounds.iter().map(|taken| less(taken, k) / less(taken, 0)));
+    ((0..along.len()).map(multiple).collect(), median(rounds.iter().map(|taken| less(taken, 0))) * 1e6)
+}
+
+/// Prints how the time of the full question grows along some blocks; each has its number, which stands for it in the table.
+fn growth(programs: &Programs, what: &str, numbers: &[u16], reach: impl Fn(u16) -> Reach) {
+    let along: Vec<_> = numbers.iter().map(|&number| reach(number)).collect();
+    let [(library, _), (rust, scale)] = [0, 1].map(|program| less_the_test(programs.0[program].as_ref(), &along));
+    println!("\nThe full question less the test of the block, by memberships {what}, in multiples of the first\n");
+    println!("| memberships | library | Rust |\n|---|---|---|");
+    for (number, (library, rust)) in numbers.iter().zip(library.iter().zip(rust)) {
+        println!("| {number} | {library:.2} | {rust:.2} |");
+    }
+    println!("\nThe first takes {scale:.2} µs in Rust.");
+}
+
+/// How many rounds a side takes, and how many names and records it looks at: in each round those of names whose marks grew in the
+/// round before.
+fn looked_at(memberships: &Part, start: u16) -> [usize; 3] {
+    let mut marks = [0; NAMES];
+    marks[usize::from(start)] = ALL;
+    let (mut grown, mut sums) = (vec![start], [0; 3]);
+    while sums[0] < CHAIN && !grown.is_empty() {
+        let before = marks;
+        let records = grown.iter().flat_map(|&name| memberships.range((name, 0)..=(name, u16::MAX)));
+        sums = [sums[0] + 1, sums[1] + grown.len(), sums[2] + records.clone().count()];
+        for (&(key, id), counts) in records {
+            let mask = (0..4).filter(|&right| counts[right] > 0).map(|right| 1 << right).sum::<u8>();
+            marks[usize::from(id)] |= before[usize::from(key)] & mask;
+        }
+        grown = (0..NAMES as u16).filter(|&name| marks[usize::from(name)] != before[usize::from(name)]).collect();
+    }
+    sums
+}
+
+/// What a side looks at in the mill, over all its names.
+fn sides() {
+    let index = Index::decode(&block(&Plain, &MILL)).expect("a good block");
+    let all: Vec<_> = (OBJECTS.start..GROUPS.end).map(|name| looked_at(&index.parts[M], name)).collect();
+    let told = ["rounds", "names", "records"].iter().enumerate().map(|(k, what)| {
+        let (sum, most) = (all.iter().map(|sums| sums[k]).sum::<usize>() as f64, all.iter().map(|sums| sums[k]).max().unwrap());
+        format!("{what} {:.1} on average, {most} at most", sum / all.len() as f64)
+    });
+    println!("\nWhat a side looks at in the mill, in at most {CHAIN} rounds: {}", told.collect::<Vec<_>>().join("; "));
 }
 
 fn main() -> Result<(), String> {
     let programs = Programs::new()?;
-    rounds();
+    sides();
     measure(&programs, "Small: 10 memberships, 5 grants", &SMALL);
     measure(&programs, "The mill: 1,258 memberships, 200 grants, 40 filters", &MILL);
     measure(&programs, "Full: 1,500 memberships, 500 grants, 45 filters, room for 3 more", &FULL);
+    let chain: Vec<_> = (0..1000).map(|name| (name, name + 1, ALL)).collect();
+    let dense: Vec<_> = doubled(0, 1000).collect();
+    questions(&programs, "A chain of 1,000", &chain);
+    questions(&programs, "Dense: every name reaches every other", &dense);
+    questions(&programs, "Dense, with masks that differ", &thinned(&dense));
+    let hub: Vec<_> = (0..999).flat_map(|name| [(name, 999, ALL), (999, name, ALL)]).collect();
+    questions(&programs, "Dense by one group, which every name is in and which is in every name", &hub);
+    due_list(&programs);
     bound(&programs);
     large_set(&programs);
-    growth(&programs);
+    let more = [250, 500, 1000, 1800];
+    growth(&programs, "not reached, with 80 that are", &more, |number| Reach { own: 20, others: number / 2 });
+    let reached = [0, 100, 400, 1600];
+    growth(&programs, "reached, of 1,800", &reached, |number| Reach { own: number / 4, others: 900 - number / 2 });
     Ok(())
 }

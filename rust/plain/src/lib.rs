@@ -1,6 +1,6 @@
 //! The same rules as a straightforward fast program on the bytes of the block: what the library is timed against. It works
-//! in place, searches by halves, moves bytes with `copy_within`, takes the memberships out of the block once for each question,
-//! and keeps marks in arrays.
+//! in place, searches by halves, moves bytes with `copy_within`, tests a block without a branch for each record, notes for each
+//! question where the memberships of each name stand, and walks from the user and the object at once, with marks in arrays.
 
 use second::drive::{packed, Library};
 
@@ -15,7 +15,10 @@ const MOST: usize = 65_535;
 pub const HEADER: usize = 16;
 /// Key, id and counts, two bytes each.
 pub const RECORD: usize = COUNTS + 2 * LETTERS.len();
+const ID: usize = 2;
 const COUNTS: usize = 4;
+const SMALLS: usize = COUNTS + 2 * RIGHTS;
+type Record = [u8; RECORD];
 pub const ROOM: usize = 2048;
 pub const GREATEST: usize = HEADER + ROOM * RECORD;
 /// The greatest number of a record that can be asked for by its number.
@@ -29,7 +32,7 @@ const MASK: usize = 4;
 const P: usize = 1;
 
 fn word(b: &[u8], at: usize) -> usize {
-    usize::from(u16::from_le_bytes([b[at], b[at + 1]]))
+    usize::from(u16::from_le_bytes(b[at..at + 2].try_into().expect("two bytes")))
 }
 
 fn four_words(b: &[u8], at: usize) -> u64 {
@@ -52,7 +55,41 @@ fn bounds(b: &[u8]) -> [usize; 4] {
 
 /// Key and id, at `at`, as one number.
 fn pair(b: &[u8], at: usize) -> usize {
-    word(b, at) << NAME_BITS | word(b, at + 2)
+    word(b, at) << NAME_BITS | word(b, at + ID)
+}
+
+/// The records of each part.
+fn parts(b: &[u8]) -> [&[Record]; 3] {
+    let at = bounds(b);
+    [0, 1, 2].map(|kind| b[place(at[kind])..place(at[kind + 1])].as_chunks().0)
+}
+
+/// Key and id of a record, by one load, as a number that rises with the key, then with the id.
+fn spot(record: &Record) -> u32 {
+    u32::from_le_bytes(record[..COUNTS].try_into().expect("four bytes")).rotate_left(16)
+}
+
+/// The bits that are set in no spot of two names.
+const NO_NAMES: u32 = !((NAMES as u32 - 1) << 16 | (NAMES as u32 - 1));
+
+/// Whether the records of a part are good, in a part where small letters may be counted or in one where they may not. What each
+/// record shows is added up without a branch, four records at a time, and looked at in the end.
+fn good<const DENIALS: bool>(records: &[Record]) -> bool {
+    let (mut names, mut last, mut falls, mut empty, mut denials) = (0, 0, 0, 0u64, 0);
+    let mut look = |record: &Record| {
+        let (spot, capitals, smalls) = (spot(record), four_words(record, COUNTS), four_words(record, SMALLS));
+        names |= spot;
+        falls += u32::from(spot <= last);
+        last = spot;
+        empty += u64::from(if DENIALS { capitals | smalls } else { capitals } == 0);
+        denials |= if DENIALS { 0 } else { smalls };
+    };
+    let (fours, rest) = records.as_chunks::<4>();
+    fours.iter().for_each(|four| four.iter().for_each(&mut look));
+    rest.iter().for_each(look);
+    // the first record is above none, and where its names are both 0 it was counted
+    let first = records.first().is_some_and(|record| spot(record) == 0);
+    names & NO_NAMES == 0 && falls <= first.into() && empty == 0 && denials == 0
 }
 
 /// 0 for a good block, else 1 or 2.
@@ -62,28 +99,16 @@ pub fn tested(b: &[u8]) -> u32 {
     }
     let at = bounds(b);
     let header = [0, HEADER, place(at[1]), place(at[2]), place(at[3])];
-    if (0..5).any(|k| word(b, 6 + 2 * k) != header[k]) || place(at[3]) > b.len() {
+    let differ = (0..5).fold(0, |differ, k| differ | (word(b, 6 + 2 * k) ^ header[k]));
+    if differ != 0 || place(at[3]) > b.len() {
         return 2;
     }
-    for kind in 0..3 {
-        let mut least = 0;
-        for record in b[place(at[kind])..place(at[kind + 1])].chunks_exact(RECORD) {
-            let (key, id) = (word(record, 0), word(record, 2));
-            let spot = key << NAME_BITS | id;
-            if key >= NAMES || id >= NAMES || spot < least {
-                return 2;
-            }
-            least = spot + 1;
-            let (capitals, smalls) = (four_words(record, COUNTS), four_words(record, COUNTS + 2 * RIGHTS));
-            if capitals | smalls == 0 || (kind != P && smalls != 0) {
-                return 2;
-            }
-        }
-    }
-    if b[place(at[3])..].iter().any(|&x| x != 0) {
-        2
-    } else {
+    let rest = b[place(at[3])..].iter().fold(0, |all, &x| all | x);
+    let [m, p, f] = parts(b);
+    if good::<false>(m) && good::<true>(p) && good::<false>(f) && rest == 0 {
         0
+    } else {
+        2
     }
 }
 
@@ -219,43 +244,119 @@ pub fn message(b: &mut [u8], m: &[u8]) -> u32 {
     0
 }
 
-fn net(b: &[u8], i: usize) -> u8 {
-    let mask = (0..LETTERS.len()).fold(0u8, |m, k| m | u8::from(word(b, count_at(i, k)) > 0) << k);
-    mask & !(mask >> RIGHTS) & ALL
+/// The highest bit of each of four counts.
+const HIGHEST: u64 = 0x8000_8000_8000_8000;
+
+/// Which of the four counts at `at` are above zero. The sum sets the highest bit of those, and the product moves the bits 0, 16,
+/// 32 and 48 to 48, 49, 50 and 51.
+fn mask(record: &Record, at: usize) -> u8 {
+    let four = four_words(record, at);
+    let bits = (((four & !HIGHEST) + !HIGHEST) | four) & HIGHEST;
+    ((bits >> 15).wrapping_mul(1 << 48 | 1 << 33 | 1 << 18 | 1 << 3) >> 48) as u8 & ALL
 }
 
-/// The key, the id and the net mask of each M record.
-pub fn links(b: &[u8]) -> Vec<(u16, u16, u8)> {
-    (0..bounds(b)[1]).map(|i| (word(b, place(i)) as u16, word(b, place(i) + 2) as u16, net(b, i))).collect()
+/// The net mask of a P record. That of an M or F record, which counts no small letters, is the mask of its capitals.
+fn net(record: &Record) -> u8 {
+    mask(record, COUNTS) & !mask(record, SMALLS)
 }
 
-fn side(links: &[(u16, u16, u8)], start: usize) -> [u8; NAMES] {
-    let mut marks = [0u8; NAMES];
-    marks[start] = ALL;
-    for _ in 0..CHAIN {
-        let before = marks;
-        let mut grew = 0;
-        for &(key, id, net) in links {
-            let (key, id) = (usize::from(key), usize::from(id));
-            let more = before[key] & net & !marks[id];
-            marks[id] |= more;
-            grew |= more;
+/// The numbers of a name's M records: the first, and the one after the last.
+type Span = (u16, u16);
+
+/// Where the M records of each name stand; the two numbers are the same for a name that has none.
+fn spans(memberships: &[Record]) -> [Span; NAMES] {
+    let mut spans = [(0, 0); NAMES];
+    let (mut start, mut last) = (0, NAMES);
+    for (i, record) in memberships.iter().enumerate() {
+        let key = word(record, 0);
+        start = if key == last { start } else { i };
+        last = key;
+        spans[key % NAMES] = (start as u16, i as u16 + 1);
+    }
+    spans
+}
+
+/// The halves of a mark: both sides are walked at once, and each right goes its own way.
+const USER: u8 = ALL;
+const OBJECT: u8 = ALL << RIGHTS;
+
+/// How many numbers of records are put on a list at a time; those that are too many are written over.
+const FEW: usize = 4;
+
+/// The marks in a round and in the round before, and the names whose marks grew.
+struct Walk {
+    marks: [u8; NAMES],
+    before: [u8; NAMES],
+    grown: [u16; NAMES],
+    names: usize,
+}
+
+impl Walk {
+    fn new(user: usize, object: usize) -> Walk {
+        let mut walk = Walk { marks: [0; NAMES], before: [0; NAMES], grown: [0; NAMES], names: 2 };
+        walk.marks[user] = USER;
+        walk.marks[object] |= OBJECT;
+        walk.grown[..2].copy_from_slice(&[user as u16, object as u16]);
+        walk.names -= usize::from(user == object);
+        walk
+    }
+
+    /// Begins a round: lists the records of the names whose marks grew in the round before. How many there are.
+    fn begin(&mut self, spans: &[Span; NAMES], list: &mut [u16; ROOM + FEW]) -> usize {
+        let mut listed = 0;
+        for &name in &self.grown[..self.names] {
+            let name = usize::from(name) % NAMES;
+            self.before[name] = self.marks[name];
+            let (mut i, end) = spans[name];
+            let (mut at, after) = (listed, listed + usize::from(end - i));
+            listed = after;
+            loop {
+                list[at..at + FEW].copy_from_slice(&[i, i + 1, i + 2, i + 3]);
+                (i, at) = (i + FEW as u16, at + FEW);
+                if at >= after {
+                    break;
+                }
+            }
         }
-        if grew == 0 {
-            break;
+        listed
+    }
+
+    /// Looks at the records that are listed. A name is put down as grown once, when its mark grows for the first time.
+    fn look(&mut self, memberships: &[Record], list: &[u16]) {
+        self.names = 0;
+        for &i in list {
+            let record = &memberships[usize::from(i)];
+            let (key, id, net) = (word(record, 0) % NAMES, word(record, ID) % NAMES, mask(record, COUNTS));
+            let more = self.before[key] & (net | net << RIGHTS) & !self.marks[id];
+            self.grown[self.names % NAMES] = id as u16;
+            self.names += usize::from((more != 0) & (self.marks[id] == self.before[id]));
+            self.marks[id] |= more;
         }
     }
-    marks
 }
 
-fn filter(b: &[u8], object: usize) -> u8 {
-    let at = bounds(b);
-    let keyed = |lo: usize, hi: usize, name: usize| {
-        (lower(b, lo, hi, name << NAME_BITS)..hi).take_while(move |&i| word(b, place(i)) == name)
+/// The marks of all names, as chains of at most `CHAIN` records bring them.
+fn walked(memberships: &[Record], spans: &[Span; NAMES], user: usize, object: usize) -> [u8; NAMES] {
+    let mut walk = Walk::new(user, object);
+    let mut list = [0; ROOM + FEW];
+    for _ in 0..CHAIN {
+        let listed = walk.begin(spans, &mut list);
+        if listed == 0 {
+            break;
+        }
+        walk.look(memberships, &list[..listed]);
+    }
+    walk.marks
+}
+
+/// The rights that all filters leave which bind an object, given its own M records.
+fn filter(filters: &[Record], object: usize, own: &[Record]) -> u8 {
+    let keyed = |name: usize| {
+        let first = filters.partition_point(|record| word(record, 0) < name);
+        filters[first..].iter().take_while(move |&record| word(record, 0) == name)
     };
-    let groups = keyed(0, at[1], object).map(|i| word(b, place(i) + 2));
-    let filters = std::iter::once(object).chain(groups).flat_map(|name| keyed(at[2], at[3], name));
-    filters.fold(ALL, |mask, i| mask & net(b, i))
+    let groups = own.iter().map(|record| word(record, ID));
+    std::iter::once(object).chain(groups).flat_map(keyed).fold(ALL, |all, record| all & mask(record, COUNTS))
 }
 
 fn question(b: &[u8], user: u64, object: u64, request: u64) -> Result<u8, u32> {
@@ -269,17 +370,20 @@ fn question(b: &[u8], user: u64, object: u64, request: u64) -> Result<u8, u32> {
     if request == 0 || request > ALL.into() {
         return Err(5);
     }
-    let (request, at) = (request as u8, bounds(b));
-    let links = links(b);
-    let users = side(&links, user as usize);
-    let mut objects = side(&links, object as usize);
-    objects[0] = ALL;
-    let limit = filter(b, object as usize) & request;
+    let (user, object, [m, p, f]) = (user as usize, object as usize, parts(b));
+    let spans = spans(m);
+    let (start, end) = spans[object];
+    let limit = filter(f, object, &m[start.into()..end.into()]) & request as u8;
+    let mut marks = walked(m, &spans, user, object);
+    marks[0] |= OBJECT;
     let mut held = 0;
-    for i in at[1]..at[2] {
-        held |= net(b, i) & objects[word(b, place(i))] & users[word(b, place(i) + 2)] & limit;
-        if held == limit {
-            break;
+    for record in p {
+        let reached = marks[word(record, 0) % NAMES] >> RIGHTS & marks[word(record, ID) % NAMES] & limit;
+        if reached & !held != 0 {
+            held |= reached & net(record);
+            if held == limit {
+                break;
+            }
         }
     }
     Ok(held)

@@ -2,6 +2,7 @@
 //! guard bytes around each buffer. A run keeps count of what it met, and says what it should have met and did not.
 
 use crate::gen::{self, Rng};
+use crate::sides::Sides;
 use crate::{binding, carries, denied, granted, letters, meets, set_of, word, Index};
 use crate::{ALL, CHAIN, COUNTS, HEADER, IDS, KINDS, LAST, LETTERS, M, NAMES, P, RECORD, RIGHTS};
 use std::collections::{BTreeMap, BTreeSet};
@@ -74,8 +75,17 @@ const TO_MEET: &[(&str, &str, &[i64])] = &[
     ("rights", "granted, and stopped by one filter alone, of a group or of the object", &[0, 1]),
     ("rights", "held, with filters, three or more taken as three", &[0, 1, 2, 3]),
     ("rights", "not granted for a denial alone", &[1, 2, 4, 8]),
-    ("rights", "granted only by a chain as long as", &[CHAIN as i64]),
-    ("rights", "not granted but by a chain as long as", &[CHAIN as i64 + 1]),
+    ("rights", "granted only by a chain of 32 records, for user or object", &[0, 1]),
+    ("rights", "not granted but by a chain of 33 records, for user or object", &[0, 1]),
+    ("rights", "held, with a name reached that has no M records, for user or object", &[0, 1]),
+    ("rights", "held only over a name with other rights before, for user or object", &[0, 1]),
+    ("rights", "held only over a name that two records gave rights in one round, for user or object", &[0, 1]),
+    ("rights", "held only over the first M record, for user or object", &[0, 1]),
+    ("rights", "held only over the last M record, for user or object", &[0, 1]),
+    ("rights", "held only over an M record of name 0, for user or object", &[0, 1]),
+    ("rights", "held only over an M record of name 1023, for user or object", &[0, 1]),
+    ("rights", "held only over the fifth M record of a name or one behind it, for user or object", &[0, 1]),
+    ("rights", "held by a user who is the object", &[1, 2, 4, 8]),
     ("may", "number", &[0, 1, 2, 4, 5]),
     ("may", "answer", &[0, 1]),
     ("write", "number", &[0, 1, 2, 3, 4, 10]),
@@ -263,12 +273,48 @@ impl Call<'_> {
         if !held && !filtered && meets(index, user, object, right, CHAIN, denied) {
             self.saw("not granted for a denial alone", 1 << right);
         }
-        if long && held && !by(CHAIN - 1) {
-            self.saw("granted only by a chain as long as", CHAIN as i64);
+        if held && user == object {
+            self.saw("held by a user who is the object", 1 << right);
         }
-        if long && !held && !filtered && by(CHAIN + 1) {
-            self.saw("not granted but by a chain as long as", CHAIN as i64 + 1);
+        let sides = Sides::new(index, user, object, right);
+        for side in 0..2 {
+            if !held && !filtered && long && sides.joined(side, &sides.names_within(side, CHAIN + 1)) {
+                self.saw("not granted but by a chain of 33 records, for user or object", side as i64);
+            }
+            if held {
+                self.saw_side(&sides, side);
+            }
         }
+    }
+
+    /// What a right that is held hung on, on one side: the M records that a walk may forget, without which it would not be held.
+    fn saw_side(&mut self, sides: &Sides, side: usize) {
+        let part = &sides.index.parts[M];
+        if part.len() >= CHAIN && !sides.joined(side, &sides.names_within(side, CHAIN - 1)) {
+            self.saw("granted only by a chain of 32 records, for user or object", side as i64);
+        }
+        if sides.names[side].iter().any(|&name| name != sides.starts[side] && set_of(part, name).is_empty()) {
+            self.saw("held, with a name reached that has no M records, for user or object", side as i64);
+        }
+        let rounds = sides.rounds(side);
+        let ends = [part.first_key_value(), part.last_key_value()].map(|end| end.map(|(&record, _)| record));
+        let nth = |record: (u16, u16)| part.range((record.0, 0)..record).count();
+        let mut hinge = |what, forgotten: &dyn Fn((u16, u16)) -> bool| {
+            if part.keys().any(|&record| forgotten(record)) && !sides.joined(side, &sides.names_without(side, forgotten)) {
+                self.saw(what, side as i64);
+            }
+        };
+        hinge("held only over the first M record, for user or object", &|record| Some(record) == ends[0]);
+        hinge("held only over the last M record, for user or object", &|record| Some(record) == ends[1]);
+        hinge("held only over an M record of name 0, for user or object", &|record| record.0 == 0);
+        hinge("held only over an M record of name 1023, for user or object", &|record| record.0 == NAMES - 1);
+        hinge("held only over the fifth M record of a name or one behind it, for user or object", &|record| nth(record) > 3);
+        hinge("held only over a name with other rights before, for user or object", &|record| {
+            sides.comes_again(&rounds, record.0)
+        });
+        hinge("held only over a name that two records gave rights in one round, for user or object", &|record| {
+            sides.comes_beside(&rounds, record.0)
+        });
     }
 
     fn may(&mut self) -> Result<Vec<u8>, String> {

@@ -100,6 +100,9 @@ pub fn index(rng: &mut Rng) -> Index {
     if rng.one_in(6) {
         chain(rng, &mut index);
     }
+    if rng.one_in(12) {
+        fan(rng, &mut index);
+    }
     let spare = match rng.below(6) {
         0 | 1 => 0,
         2 => 1,
@@ -123,22 +126,56 @@ fn name(rng: &mut Rng, pool: u64) -> u16 {
 const START: u16 = 100;
 const OTHER: u16 = 9;
 
-/// A chain about as long as one may be, with a grant at its end on the user's or the object's side.
+/// A chain about as long as one may be, with a grant at its end on the user's or the object's side. In every other one a second
+/// right comes to its names too, a round before the first: it leaves out a name.
 fn chain(rng: &mut Rng, index: &mut Index) {
     let longest = CHAIN as u16;
     let end = START + rng.pick(&[longest - 1, longest, longest + 1, longest + 8]);
-    let right = 1 << rng.below(RIGHTS as u64);
-    let mask = |rng: &mut Rng| right | if rng.one_in(3) { rng.below(ALL + 1) } else { 0 };
-    let once = |mask: u64| {
-        let mut counts = Counts::default();
-        letters(mask as u8).for_each(|k| counts[k] = 1);
-        counts
-    };
+    let [first, other] = two_rights(rng);
+    let second = if rng.one_in(2) { other } else { 0 };
+    let mask = |rng: &mut Rng| first | second | if rng.one_in(3) { rng.below(ALL + 1) } else { 0 };
     for n in START..end {
         let counts = once(mask(rng));
         index.parts[M].insert((n, n + 1), counts);
     }
-    let grant = if rng.one_in(2) { (OTHER, end) } else { (end, OTHER) };
+    if second > 0 {
+        index.parts[M].insert((START, START + 2), once(second));
+    }
+    grant(rng, index, end);
+}
+
+/// A name that is a member of six groups, of which the last two lead, with a right each, to the group of a group with a grant.
+fn fan(rng: &mut Rng, index: &mut Index) {
+    let (group, last) = (START + 7, START + 8);
+    let rights = two_rights(rng);
+    for n in 1..7 {
+        let counts = once(1 + rng.below(ALL));
+        index.parts[M].insert((START, START + n), counts);
+    }
+    for (n, right) in [5, 6].into_iter().zip(rights) {
+        index.parts[M].insert((START, START + n), once(right));
+        index.parts[M].insert((START + n, group), once(right));
+    }
+    index.parts[M].insert((group, last), once(rights[0] | rights[1]));
+    grant(rng, index, last);
+}
+
+/// The masks of two rights, not the same.
+fn two_rights(rng: &mut Rng) -> [u64; 2] {
+    let (all, one) = (RIGHTS as u64, rng.below(RIGHTS as u64));
+    [one, (one + 1 + rng.below(all - 1)) % all].map(|right| 1 << right)
+}
+
+/// Counts of 1 for the letters of a mask.
+fn once(mask: u64) -> Counts {
+    let mut counts = Counts::default();
+    letters(mask as u8).for_each(|k| counts[k] = 1);
+    counts
+}
+
+/// A grant of all rights to a name, or on it.
+fn grant(rng: &mut Rng, index: &mut Index, name: u16) {
+    let grant = if rng.one_in(2) { (OTHER, name) } else { (name, OTHER) };
     index.parts[P].insert(grant, once(ALL));
 }
 

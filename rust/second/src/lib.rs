@@ -7,6 +7,7 @@ use std::sync::LazyLock;
 
 pub mod drive;
 pub mod gen;
+mod sides;
 
 /// The letters that a record counts, in their order: the rights, then the denial of each.
 pub const LETTERS: [u8; 8] = *b"MRUPmrup";
@@ -271,12 +272,16 @@ fn passes(index: &Index, object: u16, right: usize) -> bool {
     binding(index, object).all(|(_, counts)| carries(counts, right))
 }
 
+/// Whether a P record with such counts joins one of the user's names and one of the object's, to which 0 belongs.
+fn joins(index: &Index, users: &BTreeSet<u16>, objects: &BTreeSet<u16>, right: usize, such: fn(&Counts, usize) -> bool) -> bool {
+    let on = |g: u16| g == 0 || objects.contains(&g);
+    index.parts[P].iter().any(|(&(g, s), c)| such(c, right) && on(g) && users.contains(&s))
+}
+
 /// Whether a P record with such counts is reached for the right from both sides, over chains of at most `limit` records.
 fn meets(index: &Index, user: u16, object: u16, right: usize, limit: usize, such: fn(&Counts, usize) -> bool) -> bool {
-    let users = reached(&index.parts[M], user, right, limit);
-    let mut objects = reached(&index.parts[M], object, right, limit);
-    objects.insert(0);
-    index.parts[P].iter().any(|(&(g, s), c)| such(c, right) && objects.contains(&g) && users.contains(&s))
+    let [users, objects] = [user, object].map(|start| reached(&index.parts[M], start, right, limit));
+    joins(index, &users, &objects, right, such)
 }
 
 fn granted(index: &Index, user: u16, object: u16, right: usize, limit: usize) -> bool {

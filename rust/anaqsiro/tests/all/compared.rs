@@ -107,6 +107,6 @@ impl Library for Safe {
 /// second program does, and every number of every call comes up.
 #[test]
 fn any_bytes_are_answered() {
-    let tally = run(&Safe, 5_000, 3).unwrap_or_else(|what| panic!("{what}"));
+    let tally = run(&Safe, 20_000, 3).unwrap_or_else(|what| panic!("{what}"));
     tally.complete().unwrap_or_else(|what| panic!("{what}"));
 }
