@@ -13,7 +13,7 @@ use Rattle.index.proofs.OneFirst.{one-first}
 use Rattle.index.proofs.OneMessage.{one-message}
 use Rattle.rights.specs.Questions.{Full, Short}
 use Rattle.rights.proofs.OneAnswer.{one-full, one-short}
-use Rattle.anaqsiro.specs.Returned.{Packed, Returned, MakeReturns, MessageReturns, RightsReturns, MayReturns, WriteReturns, ReadReturns, TestedReturns, SizeReturns, RecordReturns, CountReturns}
+use Rattle.anaqsiro.specs.Returned.{Packed, Returned, Parts, MakeReturns, MessageReturns, RightsReturns, MayReturns, WriteReturns, ReadReturns, TestedReturns, SizeReturns, RecordReturns, CountReturns}
 
 -- The number is the upper half of what is returned, and the value the lower.
 pub halves : {n v r : ℕ} → Packed n v r → (n ≡ r / 4294967296) × (v ≡ r % 4294967296)
@@ -70,10 +70,24 @@ module _ (Outcome : ℕ × ℕ → Type 0) (one : One Outcome) where
       one-return (λ (a : ℕ × ℕ × Unit {0}). Outcome (a .0, a .1))
       (λ a c s t. let e = one (a .0, a .1) (c .0, c .1) s t in λ i. (e i .0, e i .1, tt)) r r₂ tt tt p q .0
 
+-- The three parts of a full question's value.
+pub apart : {rights user object v : ℕ} → Parts rights user object v
+    → (rights ≡ v % 16) × (user ≡ v / 16 % 16384) × (object ≡ v / 262144)
+apart p = (omega arith, omega arith, omega arith)
+
 module _ (b : List ℕ) (u o request : ℕ) where
   pub one-rights-return : (r r₂ : ℕ) → RightsReturns b u o request r → RightsReturns b u o request r₂ → r ≡ r₂
   unfolding RightsReturns
-  one-rights-return = one-answer (Full b u o request) (one-full b u o request)
+  one-rights-return =
+      one-answer (λ a. (m : ℕ) × (i : ℕ) × (j : ℕ) × Parts m i j (a .1) × Full b u o request (a .0, m, i, j))
+      (λ a c p q.
+      let e = one-full b u o request (a .0, p .0, p .1, p .2) (c .0, q .0, q .1, q .2) (p .4) (q .4) in
+      let n : a .0 ≡ c .0 = ap (λ (t : ℕ × ℕ × ℕ × ℕ). t .0) e in
+      let m : p .0 ≡ q .0 = ap (λ (t : ℕ × ℕ × ℕ × ℕ). t .1) e in
+      let i : p .1 ≡ q .1 = ap (λ (t : ℕ × ℕ × ℕ × ℕ). t .2) e in
+      let j : p .2 ≡ q .2 = ap (λ (t : ℕ × ℕ × ℕ × ℕ). t .3) e in
+      let v : a .1 ≡ c .1 = omega (arith, p .3 .is, q .3 .is, m, i, j) in
+      λ k. (n k, v k))
 
   pub one-may-return : (r r₂ : ℕ) → MayReturns b u o request r → MayReturns b u o request r₂ → r ≡ r₂
   unfolding MayReturns

@@ -27,8 +27,18 @@ MakeReturns b r b′ = Returned (λ n v. (v ≡ 0) × Makes b (n, b′)) r
 unfoldable pub MessageReturns : List ℕ → List ℕ → ℕ → List ℕ → Type 0
 MessageReturns b m r b′ = Returned (λ n v. (v ≡ 0) × Message b m (n, b′)) r
 
+-- M-109: the rights, plus 2^4 times "the number of membership records examined" on the user's side, plus 2^18 times that on the
+-- object's, as one value v. None of the three runs into the next.
+pub record Parts (rights user object v : ℕ) : Type 0 where
+  pub is : v ≡ rights + 16 * user + 262144 * object
+  pub rights-fit : rights < 16
+  pub user-fits : user < 16384
+
 unfoldable pub RightsReturns : List ℕ → ℕ → ℕ → ℕ → ℕ → Type 0
-RightsReturns b u o request r = Returned (λ n v. Full b u o request (n, v)) r
+RightsReturns b u o request r =
+    Returned
+    (λ n v.
+    (rights : ℕ) × (user : ℕ) × (object : ℕ) × Parts rights user object v × Full b u o request (n, rights, user, object)) r
 
 unfoldable pub MayReturns : List ℕ → ℕ → ℕ → ℕ → ℕ → Type 0
 MayReturns b u o request r = Returned (λ n v. Short b u o request (n, v)) r

@@ -7,7 +7,7 @@ use rights::Answer;
 use rights::Rights;
 ghost use mathlib.Core.Path.{_≡_};
 ghost use Prim.Native.Nat.{_<_};
-ghost use Rattle.anaqsiro.specs.Returned.{Packed, MakeReturns, MessageReturns, RightsReturns, MayReturns, WriteReturns, ReadReturns, TestedReturns, SizeReturns, RecordReturns, CountReturns};
+ghost use Rattle.anaqsiro.specs.Returned.{Packed, Parts, MakeReturns, MessageReturns, RightsReturns, MayReturns, WriteReturns, ReadReturns, TestedReturns, SizeReturns, RecordReturns, CountReturns};
 
 // The number and the value as one number.
 fn packed(number: u8, value: u64) -> u64
@@ -15,6 +15,14 @@ fn packed(number: u8, value: u64) -> u64
     ensures { λ r. ⌜ Packed number value r ⌝ }
 {
     4294967296 * number as u64 + value
+}
+
+// The rights held and the numbers of M records examined on the user's side and on the object's, as one value.
+fn parts(rights: u8, user: u16, object: u16) -> u64
+    requires { ⌜ (rights < 16) × ((user < 16384) × (object < 16384)) ⌝ }
+    ensures { λ r. ⌜ Parts rights user object r × (r < 4294967296) ⌝ }
+{
+    rights as u64 + 16 * user as u64 + 262144 * object as u64
 }
 
 // An empty block.
@@ -33,13 +41,14 @@ pub extern "C" fn anaqsiro_message(block: &mut [u8], message: &[u8]) -> u64
     packed(index::message(block, message), 0)
 }
 
-// The full question; the value is the rights held of those requested.
+// The full question; the value is the rights held of those requested, plus 2^4 times the number of M records examined on the user's
+// side, plus 2^18 times that on the object's.
 #[no_mangle]
 pub extern "C" fn anaqsiro_rights(block: &[u8], user: u64, object: u64, request: u64) -> u64
     ensures { λ r. ⌜ RightsReturns (now (block .entry)) user object request r ⌝ }
 {
     match rights::rights_of(block, user, object, request) {
-        Rights::Held(mask) => packed(0, mask as u64),
+        Rights::Held(mask, of_user, of_object) => packed(0, parts(mask, of_user, of_object)),
         Rights::Refused(number) => packed(number, 0),
     }
 }

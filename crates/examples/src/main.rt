@@ -45,8 +45,16 @@ fn withdraw(block: &mut [u8], kind: u8, key: u16, id: u16, mask: u8) -> u8 {
 // The rights of the user on the object, all four asked for; 100 and the number for a refusal.
 fn full(block: &[u8], user: u64, object: u64) -> u64 {
     match rights::rights_of(block, user, object, 15) {
-        Rights::Held(mask) => mask as u64,
+        Rights::Held(mask, _, _) => mask as u64,
         Rights::Refused(number) => 100 + number as u64,
+    }
+}
+
+// How many M records a question examines on both sides together; 0 for a refusal.
+fn examined(block: &[u8], user: u64, object: u64) -> u64 {
+    match rights::rights_of(block, user, object, 15) {
+        Rights::Held(_, of_user, of_object) => of_user as u64 + of_object as u64,
+        Rights::Refused(_) => 0,
     }
 }
 
@@ -109,7 +117,8 @@ fn chains(long: u16) -> bool
     say(b"chain of ", long as u64);
     say(b"  user's side: ", full(&block, 100, 9));
     say(b"  object's side: ", full(&other, 9, 100));
-    say(b"  may read: ", short(&block, 100, 9, 2))
+    say(b"  may read: ", short(&block, 100, 9, 2));
+    say(b"  memberships examined: ", examined(&block, 100, 9))
 }
 
 // Blocks at the ends of the range of lengths.

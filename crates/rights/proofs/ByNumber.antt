@@ -5,18 +5,28 @@ use mathlib.Core.List.{List}
 use mathlib.Core.Logic.{_↔_, ⊎-elim}
 use native.Mathlib.Omega.{arith}
 use Rattle.index.specs.declared.Kind.{Kind}
+use Rattle.index.specs.declared.Kind.the-variants.{Membership}
 use Rattle.index.specs.Letters.{rightCount}
-use Rattle.index.specs.Block.{IsName, records, Of, place, key, id, Good, count}
+use Rattle.index.specs.Block.{IsName, records, size, Of, place, key, id, Sized, Good, count}
 use Rattle.index.specs.Places.{At}
 use Rattle.index.specs.Doors.{NetAt, Has, PairOf}
 use Rattle.index.proofs.Bytes.{number-small}
-use Rattle.index.proofs.Records.{where-is, count-at, count-none, of-records, no-lower}
+use Rattle.index.proofs.Records.{gap-in, where-is, count-at, count-none, of-records, no-lower}
 use Rattle.rights.specs.Held.{Is, Net}
 use Rattle.rights.specs.Lookup.{wide}
 
 -- The end of the parts is a 16-bit number.
 pub few : {b : List ℕ} → Good b → place (records b) < 2 ^ 16
 few {b} g = omega (arith, g .end-offset, number-small b 14 (g .bytes))
+
+-- The size of the M part is one.
+pub few-members : {b : List ℕ} → Good b → size b Membership < 2 ^ 16
+few-members {b} g = number-small b 0 (g .bytes)
+
+-- A block that is not too long has room for so many.
+pub no-more-members : {b : List ℕ} → Sized b → Good b → size b Membership ≤ 2048
+unfolding Sized
+no-more-members {b} sized g = omega (arith, sized, g .fits, gap-in Membership b (size b Membership) (omega arith))
 
 -- A good block has all of its records.
 pub has-record : {b : List ℕ} → Good b → {i : ℕ} → i < records b → Has b i

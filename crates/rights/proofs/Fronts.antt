@@ -9,7 +9,9 @@ use native.Mathlib.Decide.{ℕ-discrete, decLt}
 use lib.ListN.{length, getD, set, List·getD-eq-default}
 use lib.Seq.{getD-set-same, getD-set-other, ext-getD}
 use Rattle.index.specs.Block.{nameCount, IsName}
-use Rattle.rights.specs.Fronts.{listLength, HowMany, Grew, Among, Front, Named}
+use Rattle.rights.specs.Examined.{HowMany}
+use Rattle.rights.specs.Marks.{Grew}
+use Rattle.rights.specs.Fronts.{listLength, Among, Once, Front, Named}
 use Rattle.rights.proofs.Counting.{at-most, count-map, count-none, count-one}
 
 -- ---- a list of names
@@ -23,12 +25,29 @@ among-more names n z = (
   (λ s. ⊎-elim (λ a. (a .0, omega (arith, a .1), a .2)) (λ e. (n, omega arith, e)) s),
 )
 
--- A name that is put after them changes none of them.
-among-set : (names : List ℕ) (n y z : ℕ) → Among (set names n y) n z ↔ Among names n z
-among-set names n y z = (
-  (λ a. (a .0, a .1, sym (getD-set-other names n (a .0) y 0 (λ e. omega (arith, a .1, e))) ∙ a .2)),
-  (λ a. (a .0, a .1, getD-set-other names n (a .0) y 0 (λ e. omega (arith, a .1, e)) ∙ a .2)),
-)
+-- A name that is put after the first n changes none of them.
+module _ (names : List ℕ) (n y : ℕ) where
+  at-set : (j : ℕ) → j < n → getD (set names n y) j 0 ≡ getD names j 0
+  at-set j l = getD-set-other names n j y 0 (λ e. omega arith)
+
+  among-set : (j z : ℕ) → j ≤ n → Among (set names n y) j z ↔ Among names j z
+  among-set j z l = (
+    (λ a. (a .0, a .1, sym (at-set (a .0) (omega (arith, a .1))) ∙ a .2)),
+    (λ a. (a .0, a .1, at-set (a .0) (omega (arith, a .1)) ∙ a .2)),
+  )
+
+  once-set : Once names n → Once (set names n y) n
+  once-set once j l a = once j l (among-set j (getD names j 0) (omega arith) .0 (rw (at-set j l) at a))
+
+-- Names that stand once are as many as they are.
+pub once-many : (names : List ℕ) (n : ℕ) → Once names n → ((j : ℕ) → j < n → IsName (getD names j 0)) → HowMany (Among names n) nameCount n
+once-many names ℕ.zero once each = count-none (Among names 0) nameCount (λ z l a. omega (arith, a .1))
+once-many names (suc n) once each =
+    let e : n + 1 ≡ suc n = omega arith in
+    subst (λ (c : ℕ). HowMany (Among names c) nameCount (suc n)) e
+    (count-map (λ z l. let m = among-more names n z in (m .1, m .0))
+    (count-one (getD names n 0) (once n (omega arith)) (each n (omega arith))
+    (once-many names n (λ j l. once j (omega arith)) (λ j l. each j (omega arith)))))
 
 -- ---- what is on it
 
@@ -37,13 +56,10 @@ pub front-none : (ms names : List ℕ) → Front ms ms names 0
 front-none ms names = record {
   above = λ z. omega arith;
   listed = λ z. ((λ a. absurd (omega (arith, a .1))), (λ g. absurd (g refl)));
-  once = count-none (Among names 0) nameCount (λ z a. omega (arith, a .1));
+  once = λ j l. absurd (omega arith);
 }
 
 module _ {old ms names : List ℕ} {n : ℕ} (front : Front old ms names n) where
-  pub front-few : n ≤ nameCount
-  front-few = at-most (front .once)
-
   -- A mark that is not on it is as it was.
   pub front-same : (z : ℕ) → (Among names n z → ⊥) → getD old z 0 ≡ getD ms z 0
   front-same z none =
@@ -52,18 +68,23 @@ module _ {old ms names : List ℕ} {n : ℕ} (front : Front old ms names n) wher
         | no ne ↦ absurd (none (front .listed z .1 ne))
       ]
 
-  -- The first n of the list are names, since only names have marks.
-  pub front-named : length old ≡ nameCount → length ms ≡ nameCount → length names ≡ listLength → Named names n
-  front-named of-old of-ms long = record {
-    inside = omega (arith, front-few);
-    each = λ j l. elim (decLt (getD names j 0) nameCount) [
-      | yes h ↦ h
-      | no f ↦
-          absurd
-          (front .listed (getD names j 0) .0 (j, l, refl)
-          (List·getD-eq-default old 0 {n = getD names j 0} (omega arith) ∙ sym (List·getD-eq-default ms 0 {n = getD names j 0} (omega arith))))
-    ];
-  }
+  -- The first n of the list are names, since only names have marks, so they are few.
+  module _ (of-old : length old ≡ nameCount) (of-ms : length ms ≡ nameCount) where
+    each : (j : ℕ) → j < n → IsName (getD names j 0)
+    each j l =
+        elim (decLt (getD names j 0) nameCount) [
+          | yes h ↦ h
+          | no f ↦
+              absurd
+              (front .listed (getD names j 0) .0 (j, l, refl)
+              (List·getD-eq-default old 0 {n = getD names j 0} (omega arith) ∙ sym (List·getD-eq-default ms 0 {n = getD names j 0} (omega arith))))
+        ]
+
+    pub front-few : n ≤ nameCount
+    front-few = at-most (once-many names n (front .once) each)
+
+    pub front-named : length names ≡ listLength → Named names n
+    front-named long = record { inside = omega (arith, front-few); each = each; once = front .once }
 
   -- The mark of y becomes v, and y is put after the n names.
   module _ (y v : ℕ) (inside : y < length ms) (up : getD ms y 0 ≤ v) where
@@ -85,10 +106,10 @@ module _ {old ms names : List ℕ} {n : ℕ} (front : Front old ms names n) wher
     front-keep not-new = record {
       above = above;
       listed = λ z.
-          let a = among-set names n y z in
+          let a = among-set names n y n z (omega arith) in
           let w = here z in
           ((λ p. w .0 (a .0 p)), (λ g. a .1 (w .1 g)));
-      once = count-map (λ z l. let a = among-set names n y z in (a .1, a .0)) (front .once);
+      once = once-set names n y (front .once);
     }
       where
         at : Among names n y ↔ (getD old y 0 ≡ v → ⊥)
@@ -109,9 +130,9 @@ module _ {old ms names : List ℕ} {n : ℕ} (front : Front old ms names n) wher
             ]
 
     -- It does, and y stays on the list.
-    pub front-push : n < length names → IsName y → getD old y 0 ≡ getD ms y 0 → (getD ms y 0 ≡ v → ⊥)
+    pub front-push : n < length names → getD old y 0 ≡ getD ms y 0 → (getD ms y 0 ≡ v → ⊥)
         → Front old (set ms y v) (set names n y) (n + 1)
-    front-push room named same new = record {
+    front-push room same new = record {
       above = above;
       listed = λ z. elim (ℕ-discrete z y) [
         | yes e ↦ rw (e, at-y) ((λ a q. new (sym same ∙ q)), (λ g. split y .1 (inr refl)))
@@ -120,18 +141,18 @@ module _ {old ms names : List ℕ} {n : ℕ} (front : Front old ms names n) wher
           (λ g. split z .1 (inl (front .listed z .1 g))),
         )
       ];
-      once =
-          let e : suc n ≡ n + 1 = omega arith in
-          count-map (λ z l. (split z .1, split z .0))
-          (subst (λ (c : ℕ). HowMany (λ z. Among names n z ⊎ (y ≡ z)) nameCount c) e
-          (count-one y (λ a. front .listed y .0 a same) named (front .once)));
+      once = λ j l a. ⊎-elim
+          (λ e. front .listed y .0 (among-set names n y n y (omega arith) .0 (subst (λ (z : ℕ). Among (set names n y) n z) last (subst (λ (i : ℕ). Among (set names n y) i (getD (set names n y) i 0)) e a))) same)
+          (λ h. once-set names n y (front .once) j h a) (eq-or-lt-of-le {n = j} {m = n} (omega arith));
     }
       where
+        last : getD (set names n y) n 0 ≡ y
+        last = getD-set-same names n y 0 room
+
         split : (z : ℕ) → Among (set names n y) (n + 1) z ↔ (Among names n z ⊎ (y ≡ z))
         split z =
-            let last = getD-set-same names n y 0 room in
             let more = among-more (set names n y) n z in
-            let a = among-set names n y z in (
+            let a = among-set names n y n z (omega arith) in (
               (λ w. ⊎-elim (λ p. inl (a .0 p)) (λ e. inr (sym last ∙ e)) (more .0 w)),
               (λ s. more .1 (⊎-elim (λ p. inl (a .1 p)) (λ e. inr (last ∙ e)) s)),
             )

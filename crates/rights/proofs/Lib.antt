@@ -6,6 +6,9 @@ mod Starting
 mod Fronts
 mod Rounding
 pub mod MarksAreChains
+pub mod ExaminedOnce
+pub mod AtMostFourTimes
+mod Examining
 mod Filters
 mod Sifting
 mod Granting
@@ -16,3 +19,4 @@ pub mod ShortAgrees
 mod ChainTest
 mod FilterTest
 pub mod HoldsTest
+pub mod ExaminedTest

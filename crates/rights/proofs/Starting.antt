@@ -23,7 +23,7 @@ firsts-none b = record {
 module _ {b names firsts : List ℕ} {n : ℕ} (named : Named names n) (all : Firsts b firsts) where
   pub turn-of : (j : ℕ) → j < n → StartsAt b Membership (getD names j 0) (getD firsts (getD names j 0) 0) → Turn b names firsts j
   turn-of j l starts =
-      record { inside = omega (arith, named .inside); named = named .each j l; of-firsts = all .names; starts = starts }
+      record { inside = omega (arith, named .inside); named = named .each j l; new = named .once j l; of-firsts = all .names; starts = starts }
 
   -- The first j names and name j.
   pub turns-more : (j : ℕ) → ((i : ℕ) → i < j → Turn b names firsts i) → Turn b names firsts j → (i : ℕ) → i < j + 1 → Turn b names firsts i
@@ -62,6 +62,7 @@ module _ {b names firsts : List ℕ} {n : ℕ} (named : Named names n) (all : Fi
         record {
           inside = t .inside;
           named = t .named;
+          new = t .new;
           of-firsts = length-set firsts x v ∙ all .names;
           starts = still (getD names i 0) (t .starts);
         }

@@ -1,5 +1,6 @@
 -- What the support desk reads.
 pub mod Held
+pub mod Examined
 pub mod Questions
 -- What only proofs need.
 pub mod Marks

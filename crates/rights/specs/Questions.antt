@@ -13,6 +13,7 @@ use Rattle.rights.specs.declared.Rights.the-variants as rights
 use Rattle.rights.specs.declared.Answer.{Answer}
 use Rattle.rights.specs.declared.Answer.the-variants as answer
 use Rattle.rights.specs.Held.{Holds}
+use Rattle.rights.specs.Examined.{Examined, roundCount}
 
 -- 1 and 2 of the block; 4: "a name above 1023"; 5: "request 0 or above 15".
 unfoldable pub questionNeeds : List ℕ → ℕ → ℕ → ℕ → List (ℕ × Type 0)
@@ -23,10 +24,19 @@ questionNeeds b u o request =
 unfoldable pub Limited : List ℕ → ℕ → ℕ → ℕ → ℕ → Type 0
 Limited b u o request mask = Mask mask (λ k. Holds b u o k × In k request)
 
--- The full question: the number, and the rights.
-unfoldable pub Full : List ℕ → ℕ → ℕ → ℕ → (ℕ × ℕ) → Type 0
-Full b u o request a =
-    First (λ n. (n, 0)) (questionNeeds b u o request) (λ a. (a .0 ≡ 0) × Limited b u o request (a .1)) a
+-- An accepted full question: the number 0, the rights, and, M-109: "the number of membership records examined, one for the user's
+-- side and one for the object's".
+abbrev pub Reports : List ℕ → ℕ → ℕ → ℕ → (ℕ × ℕ × ℕ × ℕ) → Type 0
+Reports b u o request a =
+    (a .0 ≡ 0) × Limited b u o request (a .1) × Examined b u roundCount (a .2) × Examined b o roundCount (a .3)
+
+-- A refused one: no right, and "A refused call reports 0."
+abbrev pub unreported : ℕ → ℕ × ℕ × ℕ × ℕ
+unreported n = (n, 0, 0, 0)
+
+-- The full question.
+unfoldable pub Full : List ℕ → ℕ → ℕ → ℕ → (ℕ × ℕ × ℕ × ℕ) → Type 0
+Full b u o request a = First unreported (questionNeeds b u o request) (Reports b u o request) a
 
 -- "every requested right is held"
 unfoldable pub HoldsAll : List ℕ → ℕ → ℕ → ℕ → Type 0
@@ -38,11 +48,11 @@ Short b u o request a =
     First (λ n. (n, 0)) (questionNeeds b u o request)
     (λ a. (a .0 ≡ 0) × (a .1 < 2) × ((a .1 ≡ 1) ↔ HoldsAll b u o request)) a
 
--- ---- what each case of an answer stands for: 01's number, and its value
+-- ---- what each case of an answer stands for: 01's number, and its values
 
 unfoldable pub Asks : List ℕ → ℕ → ℕ → ℕ → Rights → Type 0
-Asks b u o request (rights.Held mask) = Full b u o request (0, mask)
-Asks b u o request (rights.Refused n) = (0 < n) × Full b u o request (n, 0)
+Asks b u o request (rights.Held mask user object) = Full b u o request (0, mask, user, object)
+Asks b u o request (rights.Refused n) = (0 < n) × Full b u o request (unreported n)
 
 unfoldable pub AsksAll : List ℕ → ℕ → ℕ → ℕ → Answer → Type 0
 AsksAll b u o request answer.Yes = Short b u o request (0, 1)

@@ -36,7 +36,8 @@ fn refusal(block: &[u8], user: u64, object: u64, request: u64) -> u8
     0
 }
 
-// The full question: the rights that the user holds on the object, limited to those requested.
+// The full question: the rights that the user holds on the object, limited to those requested, and the number of M records examined
+// on each side.
 pub fn rights_of(block: &[u8], user: u64, object: u64, request: u64) -> Rights
     ensures { λ r. ⌜ Asks (now (block .entry)) user object request r ⌝ }
 {
@@ -45,7 +46,8 @@ pub fn rights_of(block: &[u8], user: u64, object: u64, request: u64) -> Rights
         return Rights::Refused(number);
     }
     let wanted = filter_of(block, object as usize) & (request as u8);
-    Rights::Held(granted(block, user as usize, object as usize, wanted))
+    let reach = granted(block, user as usize, object as usize, wanted);
+    Rights::Held(reach.rights, reach.user, reach.object)
 }
 
 // The short question: whether the user holds every requested right on the object.
@@ -60,7 +62,8 @@ pub fn may(block: &[u8], user: u64, object: u64, request: u64) -> Answer
     if filter_of(block, object as usize) & wanted != wanted {
         return Answer::No;
     }
-    if granted(block, user as usize, object as usize, wanted) == wanted {
+    let reach = granted(block, user as usize, object as usize, wanted);
+    if reach.rights == wanted {
         return Answer::Yes;
     }
     Answer::No

@@ -11,13 +11,13 @@ use Rattle.index.specs.Text.{textOf, setOf}
 use Rattle.index.proofs.MessageTest.{messageTest, message-test, lastOf}
 use Rattle.tight.specs.Examples.{Case, Shows}
 use Rattle.tight.proofs.BlockTest.{blockTest}
-use Rattle.tight.proofs.RightsTest.{rightsTest, rights-test, everywhereTest, everywhere-test}
+use Rattle.tight.proofs.RightsTest.{Tested, rights-test, everywhereTest, everywhere-test}
 use Rattle.tight.proofs.TextTest.{setTest, text-test, wrongTest, wrong-test, empty-text}
 use Rattle.tight.proofs.RefusedTest.{changeTest, refused-test}
 
 -- The test of a case. An accepted message goes through the blocks ds; a refused one is accepted by another block, b₀.
 abbrev pub Test : Case → Type 0
-Test (Case.rights b u o mask) = rightsTest b u mask o ≡ true
+Test (Case.rights b u o mask i j) = Tested b u mask o i j
 Test (Case.everywhere b u mask) = everywhereTest b u mask ≡ true
 Test (Case.text b kind x t n) =
     (setTest b kind x ≡ true) × (textOf (setOf b (kindOf kind) x) ≡ t) × (length (setOf b (kindOf kind) x) ≡ n)
@@ -30,7 +30,7 @@ Test (Case.refused b m n) =
 
 -- Each test means what its case says.
 means : (c : Case) → Test c → Shows c
-means (Case.rights b u o mask) e = rights-test b u mask o e
+means (Case.rights b u o mask i j) e = rights-test b u mask o i j e
 means (Case.everywhere b u mask) e = everywhere-test b u mask e
 means (Case.text b kind x t n) e = text-test b kind x t n (e .0) (e .1) (e .2)
 means (Case.wrong t place) e = wrong-test t place e

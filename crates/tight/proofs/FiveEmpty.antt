@@ -13,12 +13,12 @@ use Rattle.index.specs.Calls.{Makes}
 use Rattle.index.specs.History.{left, others, after, movesOf, tally}
 use Rattle.index.proofs.GoodTest.{good-test}
 use Rattle.tight.specs.Blocks.{zeros, nothing, reads, give}
-use Rattle.tight.specs.Examples.{twoRecords, twoText}
+use Rattle.tight.specs.Examples.{ring, twoRecords, twoText}
 use Rattle.tight.specs.Programs.{Program, Meets, RefusesEverything, AnswersTheSame, ChangesNothing, OnlyTheFirst, Handed, MakesUpCounts}
 use Rattle.tight.proofs.Programs as does
 use Rattle.tight.proofs.Demand3.{second-half}
 use Rattle.tight.proofs.Mill.{by, made, first-given, second-given, held-by-one, held-by-none, yes-to-one, no-to-all, count-of-one}
-use Rattle.tight.proofs.Starred.{texts-right}
+use Rattle.tight.proofs.Starred.{texts-right, examined-right}
 use Rattle.tight.proofs.TextTest.{emptied}
 
 module _ (p : Program) (meets : Meets p) where
@@ -33,12 +33,20 @@ module _ (p : Program) (meets : Meets p) where
   not-refusing (RefusesEverything.short r) = omega (arith, rw (does.says p meets yes-to-one) at (r (reads 1) 1 9 2))
 
   -- "One that grants the same mask always: demand 2's chains." The mask is 0 with no grant and 2 with one; the short answer on
-  -- the same block is yes to reading and no to everything.
+  -- the same block is yes to reading and no to everything. M-109's numbers are 0 on the empty block and 20 on the ring.
   pub not-the-same : AnswersTheSame p → ⊥
   not-the-same (AnswersTheSame.full mask same) =
       let none = rw (does.answers p meets held-by-none) at (same nothing 1 9 15) in
       let one = rw (does.answers p meets held-by-one) at (same (reads 1) 1 9 15) in
       omega (arith, none refl, one refl)
+  not-the-same (AnswersTheSame.user n same) =
+      let none = rw (does.answers p meets held-by-none) at (same nothing 1 9 15) in
+      let some = rw (does.answers p meets (examined-right .0)) at (same ring 1 9 15) in
+      omega (arith, none refl, some refl)
+  not-the-same (AnswersTheSame.object n same) =
+      let none = rw (does.answers p meets held-by-none) at (same nothing 1 9 15) in
+      let some = rw (does.answers p meets (examined-right .1 .0)) at (same ring 9 1 15) in
+      omega (arith, none refl, some refl)
   not-the-same (AnswersTheSame.short answer same) =
       let yes = rw (does.says p meets yes-to-one) at (same (reads 1) 1 9 2) in
       let no = rw (does.says p meets no-to-all) at (same (reads 1) 1 9 15) in

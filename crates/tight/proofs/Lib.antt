@@ -4,6 +4,7 @@ pub mod Demand3
 pub mod Mill
 pub mod Starred
 pub mod NotVacuous
+pub mod FourTimes
 -- What they rest on: one outcome for each promise, and the tests that compute.
 pub mod Programs
 pub mod BlockTest

@@ -45,13 +45,13 @@ second-given = appointments-right .1 .0
 one-withdrawn : Message (reads 2) withdraw (0, reads 1)
 one-withdrawn = appointments-right .1 .1 .0
 
-pub held-by-one : Full (reads 1) 1 9 15 (0, 2)
+pub held-by-one : Full (reads 1) 1 9 15 (0, 2, 0, 0)
 held-by-one = appointments-right .1 .1 .1 .0
 
 pub both-withdrawn : Message (reads 1) withdraw (0, nothing)
 both-withdrawn = appointments-right .1 .1 .1 .1 .0
 
-pub held-by-none : Full nothing 1 9 15 (0, 0)
+pub held-by-none : Full nothing 1 9 15 (0, 0, 0, 0)
 held-by-none = appointments-right .1 .1 .1 .1 .1 .0
 
 -- ---- the right stands while one appointment does
@@ -65,13 +65,13 @@ both-ended = next first-given (next second-given (next one-withdrawn (next both-
 -- "a right she had never lost": user 1 holds right 1, to read, on 9.
 pub never-lost : Holds (reads 1) 1 9 1
 unfolding Limited
-never-lost = accepted-full (reads 1) 1 9 15 2 held-by-one .1 .1 1 (omega arith) .0 refl .0
+never-lost = accepted-full (reads 1) 1 9 15 2 0 0 held-by-one .1 .1 .1 1 (omega arith) .0 refl .0
 
 -- The short question, on the same block: yes to reading, no to all four rights.
 question-holds : (request : ℕ) → 1 ≤ request → request ≤ 15 → All (questionNeeds (reads 1) 1 9 request)
 unfolding questionNeeds blockNeeds
 question-holds request l h =
-    let q = accepted-full (reads 1) 1 9 15 2 held-by-one .0 in (q .0, (q .1 .0, (q .1 .1 .0, ((l, h), tt))))
+    let q = accepted-full (reads 1) 1 9 15 2 0 0 held-by-one .0 in (q .0, (q .1 .0, (q .1 .1 .0, ((l, h), tt))))
 
 pub yes-to-one : Short (reads 1) 1 9 2 (0, 1)
 unfolding Short HoldsAll
@@ -84,12 +84,12 @@ pub no-to-all : Short (reads 1) 1 9 15 (0, 0)
 unfolding Short Limited HoldsAll
 no-to-all =
     let no : HoldsAll (reads 1) 1 9 15 → ⊥ =
-    λ all. omega (arith, accepted-full (reads 1) 1 9 15 2 held-by-one .1 .1 0 (omega arith) .1 (all 0 (omega arith) refl, refl)) in
+    λ all. omega (arith, accepted-full (reads 1) 1 9 15 2 0 0 held-by-one .1 .1 .1 0 (omega arith) .1 (all 0 (omega arith) refl, refl)) in
     first-all _ _ (0, 0) (questionNeeds (reads 1) 1 9 15) (question-holds 15 (omega arith) (omega arith))
     (refl, omega arith, ((λ e. absurd (omega arith)), (λ h. absurd (no h))))
 
 -- Whatever program meets the promises answers so.
-pub still-answered : (p : Program) → Meets p → p .rights (run p nothing (give ∷ give ∷ withdraw ∷ [])) 1 9 15 ≡ (0, 2)
+pub still-answered : (p : Program) → Meets p → p .rights (run p nothing (give ∷ give ∷ withdraw ∷ [])) 1 9 15 ≡ (0, 2, 0, 0)
 still-answered p meets = rw (runs p meets (give ∷ give ∷ withdraw ∷ []) one-ended) (answers p meets held-by-one)
 
 -- In every order in which the four messages are accepted, the block is empty again.

@@ -55,7 +55,7 @@ module _ (b : List ℕ) (r : ℕ) (above : 0 < r) where
   unfolding Full Short
   questions-give u o request a =
       let ts = questionNeeds b u o request in
-      (b, u, o, request, 0, 0, refuses _ _ ts not-zero a, refuses _ _ ts not-zero a)
+      (b, u, o, request, (0, 0, 0), 0, refuses _ _ ts not-zero a, refuses _ _ ts not-zero a)
 
   -- Every call but make.
   calls-give : Answers (blockNeeds b) r → MessageGives r × (WriteGives r × ReadGives r) × QuestionsGive r × ListGives r
@@ -285,4 +285,4 @@ read-numbers =
 
 pub question-numbers : Each QuestionsGive questionNumbers
 question-numbers =
-    (reads 1, 1, 9, 15, 2, 0, held-by-one, no-to-all) and no-bytes .2 and no-header .2 and no-user and no-request and tt
+    (reads 1, 1, 9, 15, (2, 0, 0), 0, held-by-one, no-to-all) and no-bytes .2 and no-header .2 and no-user and no-request and tt

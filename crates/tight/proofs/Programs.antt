@@ -11,18 +11,17 @@ use Rattle.index.proofs.Firsts.{All, first-passed}
 use Rattle.index.proofs.OneCall.{one-make, one-write, one-read}
 use Rattle.index.proofs.OneMessage.{one-message}
 use Rattle.index.proofs.Unchanged.{message-unchanged}
-use Rattle.rights.specs.Questions.{questionNeeds, Limited, Full, Short}
+use Rattle.rights.specs.Questions.{questionNeeds, Reports, unreported, Full, Short}
 use Rattle.rights.proofs.OneAnswer.{one-full, one-short}
 use Rattle.tight.specs.Programs.{Program, Meets, run, Handed}
 
--- What an accepted answer says: its requirements hold, and its mask is of the rights held.
-pub accepted-full : (b : List ℕ) (u o request mask : ℕ) → Full b u o request (0, mask)
-    → All (questionNeeds b u o request) × Limited b u o request mask
+-- What an accepted answer says: its requirements hold, its mask is of the rights held, and its numbers are of the records examined.
+pub accepted-full : (b : List ℕ) (u o request mask i j : ℕ) → Full b u o request (0, mask, i, j)
+    → All (questionNeeds b u o request) × Reports b u o request (0, mask, i, j)
 unfolding Full questionNeeds blockNeeds
-accepted-full b u o request mask h =
-    let p = first-passed (λ n. (n, 0)) (λ a. (a .0 ≡ 0) × Limited b u o request (a .1)) (0, mask) (λ a. a .0) (λ n. refl)
-    (questionNeeds b u o request) (omega arith) refl h in
-    (p .0, p .1 .1)
+accepted-full b u o request mask i j h =
+    first-passed unreported (Reports b u o request) (0, mask, i, j) (λ a. a .0) (λ n. refl)
+    (questionNeeds b u o request) (omega arith) refl h
 
 module _ (p : Program) (meets : Meets p) where
   -- ---- each call
@@ -39,7 +38,7 @@ module _ (p : Program) (meets : Meets p) where
   pub reads : {b : List ℕ} {kind x : ℕ} {text : List ℕ} {o : ℕ × ℕ × List ℕ} → ReadsSet b kind x text o → p .read b kind x text ≡ o
   reads {b} {kind} {x} {text} {o} h = one-read b kind x text (p .read b kind x text) o (meets .read b kind x text) h
 
-  pub answers : {b : List ℕ} {u o request : ℕ} {a : ℕ × ℕ} → Full b u o request a → p .rights b u o request ≡ a
+  pub answers : {b : List ℕ} {u o request : ℕ} {a : ℕ × ℕ × ℕ × ℕ} → Full b u o request a → p .rights b u o request ≡ a
   answers {b} {u} {o} {request} {a} h = one-full b u o request (p .rights b u o request) a (meets .rights b u o request) h
 
   pub says : {b : List ℕ} {u o request : ℕ} {a : ℕ × ℕ} → Short b u o request a → p .may b u o request ≡ a

@@ -1,6 +1,6 @@
 -- A test of the full answer that computes, on one object or on all: all four rights are requested.
 use Prim.Native.Nat.{ℕ, _/_, _%_, _^_, _<_}
-use mathlib.Core.Path.{_≡_, refl, sym, _∙_}
+use mathlib.Core.Path.{_≡_, refl, sym, subst, _∙_}
 use mathlib.Core.Bool.{Bool, true, false, cond, _&&_}
 use mathlib.Core.List.{List}
 use mathlib.Core.Logic.{_↔_, inr}
@@ -14,6 +14,7 @@ use Rattle.index.proofs.Masks.{in-all}
 use Rattle.index.proofs.Tests.{both, all, all-at}
 use Rattle.rights.specs.Held.{Holds}
 use Rattle.rights.specs.Questions.{questionNeeds, Limited, Full}
+use Rattle.rights.proofs.ExaminedTest.{examinedTest, examined-test}
 use Rattle.rights.proofs.HoldsTest.{holdsTest, holds-test}
 use Rattle.tight.proofs.BlockTest.{blockTest, block-test}
 
@@ -52,7 +53,7 @@ module _ (b : List ℕ) (u mask : ℕ) where
         (λ h. eqb-true _ _ (s ∙ holds-test g u o k .1 (h .0))),
       )
 
-  full : userTest ≡ true → (o : ℕ) → IsName o → objectTest o ≡ true → Full b u o allRights (0, mask)
+  full : userTest ≡ true → (o : ℕ) → IsName o → objectTest o ≡ true → Full b u o allRights (0, mask, examinedTest b u, examinedTest b o)
   unfolding Full questionNeeds blockNeeds Limited
   full e o n h =
       let p = both (blockTest b) _ e in
@@ -64,18 +65,26 @@ module _ (b : List ℕ) (u mask : ℕ) where
           t .1,
           inr (
             (ltb-true _ _ (q .0), n),
-            inr ((omega arith, omega arith), (refl, (ltb-true _ _ (q .1), object-test (t .1) o h))),
+            inr (
+              (omega arith, omega arith),
+              (refl, (ltb-true _ _ (q .1), object-test (t .1) o h), examined-test (t .1) u, examined-test (t .1) o),
+            ),
           ),
         ),
       )
 
-  pub rights-test : (o : ℕ) → rightsTest o ≡ true → Full b u o allRights (0, mask)
-  rights-test o e =
+  -- The rights, and the numbers of records examined on the two sides.
+  abbrev pub Tested : ℕ → ℕ → ℕ → Type 0
+  Tested o i j = (rightsTest o ≡ true) × (examinedTest b u ≡ i) × (examinedTest b o ≡ j)
+
+  pub rights-test : (o i j : ℕ) → Tested o i j → Full b u o allRights (0, mask, i, j)
+  rights-test o i j (e, x, y) =
       let p = both userTest _ e in
       let q = both (ltb o nameCount) (objectTest o) (p .1) in
-      full (p .0) o (ltb-true _ _ (q .0)) (q .1)
+      subst (λ (n : ℕ). Full b u o allRights (0, mask, n, j)) x
+      (subst (λ (n : ℕ). Full b u o allRights (0, mask, examinedTest b u, n)) y (full (p .0) o (ltb-true _ _ (q .0)) (q .1)))
 
-  pub everywhere-test : everywhereTest ≡ true → (o : ℕ) → IsName o → Full b u o allRights (0, mask)
+  pub everywhere-test : everywhereTest ≡ true → (o : ℕ) → IsName o → (i : ℕ) × (j : ℕ) × Full b u o allRights (0, mask, i, j)
   everywhere-test e o n =
       let p = both userTest _ e in
-      full (p .0) o n (all-at objectTest 0 nameCount (p .1) o (omega arith) n)
+      (_, _, full (p .0) o n (all-at objectTest 0 nameCount (p .1) o (omega arith) n))

@@ -9,7 +9,7 @@ use Rattle.index.specs.Message.{kindOf, kindNumber, flags, halfAt, previous, ne
 use Rattle.index.specs.Text.{digitsOf, decimal, pieceOf, piecesOf, entryText, textOf, countsAt, setFrom, setOf}
 use Rattle.index.specs.Reading.{digit, reaches, readDigits, readNumber, readCount, readLetter, readCounts, readMark, readRecord, readMore, readRecords, parse}
 use Rattle.tight.specs.Blocks.{once, block, nothing, reads}
-use Rattle.tight.specs.Examples.{Case, Shows, granted, masks, texts, places, chains, appointments, limits, cases}
+use Rattle.tight.specs.Examples.{Case, Shows, granted, masks, texts, places, chains, ring, crowd, examined, appointments, limits, cases}
 use Rattle.tight.proofs.CaseTest.{all-mean}
 
 -- The tests of one case after the other.
@@ -19,7 +19,7 @@ a and b = (a, b)
 
 masks-right : Each Shows masks
 unfolding number countAt countFrom count room lettersOf kindOf kindNumber flags halfAt previous new changes moves taken added ownCount
-masks-right = all-mean masks ((granted 135 ∷ [], refl, refl) and refl and (granted 79 ∷ [], refl, refl) and refl and tt)
+masks-right = all-mean masks ((granted 135 ∷ [], refl, refl) and (refl, refl, refl) and (granted 79 ∷ [], refl, refl) and (refl, refl, refl) and tt)
 
 pub texts-right : Each Shows texts
 unfolding number countAt letters lettersOf kindOf digitsOf decimal pieceOf piecesOf entryText textOf countsAt setFrom setOf digit reaches readDigits readNumber readCount readLetter readCounts readMark readRecord readMore readRecords parse
@@ -33,7 +33,11 @@ places-right = all-mean places (refl and refl and refl and refl and refl and tt)
 
 chains-right : Each Shows chains
 unfolding number countAt lettersOf
-chains-right = all-mean chains (refl and refl and refl and refl and refl and tt)
+chains-right = all-mean chains ((refl, refl, refl) and (refl, refl, refl) and refl and (refl, refl, refl) and (refl, refl, refl) and tt)
+
+pub examined-right : Each Shows examined
+unfolding number countAt lettersOf
+examined-right = all-mean examined ((refl, refl, refl) and (refl, refl, refl) and (refl, refl, refl) and (refl, refl, refl) and (refl, refl, refl) and (refl, refl, refl) and (refl, refl, refl) and tt)
 
 pub appointments-right : Each Shows appointments
 unfolding number countAt countFrom count room lettersOf kindOf kindNumber flags halfAt previous new changes moves taken added ownCount
@@ -42,9 +46,9 @@ appointments-right =
     ((reads 1 ∷ [], refl, refl)
     and (reads 2 ∷ [], refl, refl)
     and (reads 1 ∷ [], refl, refl)
-    and refl
+    and (refl, refl, refl)
     and (nothing ∷ [], refl, refl)
-    and refl
+    and (refl, refl, refl)
     and tt)
 
 pub limits-right : Each Shows limits
@@ -66,7 +70,8 @@ joined (x ∷ xs) ys p q = (p .0, joined xs ys (p .1) q)
 pub table : Each Shows cases
 table =
     let last = joined appointments limits appointments-right limits-right in
-    let later = joined chains (appointments ++ limits) chains-right last in
-    let wrong = joined places (chains ++ (appointments ++ limits)) places-right later in
-    joined masks (texts ++ (places ++ (chains ++ (appointments ++ limits)))) masks-right
-    (joined texts (places ++ (chains ++ (appointments ++ limits))) texts-right wrong)
+    let counted = joined examined (appointments ++ limits) examined-right last in
+    let later = joined chains (examined ++ (appointments ++ limits)) chains-right counted in
+    let wrong = joined places (chains ++ (examined ++ (appointments ++ limits))) places-right later in
+    joined masks (texts ++ (places ++ (chains ++ (examined ++ (appointments ++ limits))))) masks-right
+    (joined texts (places ++ (chains ++ (examined ++ (appointments ++ limits)))) texts-right wrong)

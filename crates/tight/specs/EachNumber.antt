@@ -25,8 +25,8 @@ ReadGives n =
 -- The two questions, with the same input.
 abbrev pub QuestionsGive : ℕ → Type 0
 QuestionsGive n =
-    (b : List ℕ) × (u : ℕ) × (o : ℕ) × (request : ℕ) × (mask : ℕ) × (answer : ℕ) × Full b u o request (n, mask)
-    × Short b u o request (n, answer)
+    (b : List ℕ) × (u : ℕ) × (o : ℕ) × (request : ℕ) × (values : ℕ × ℕ × ℕ) × (answer : ℕ)
+    × Full b u o request (n, values .0, values .1, values .2) × Short b u o request (n, answer)
 
 -- Its column "calls", read the other way: the numbers of each call.
 abbrev pub makeNumbers : List ℕ

@@ -1,4 +1,4 @@
--- 01, "Examples to hold it to": the starred ones, as one table, with some of M-101 and M-102. A case says what it says by the
+-- 01, "Examples to hold it to": the starred ones, as one table, with some of M-101, M-102 and M-109. A case says what it says by the
 -- promises of the calls.
 use Prim.Native.Nat.{ℕ, _≤_}
 use mathlib.Core.Path.{_≡_}
@@ -14,8 +14,9 @@ use Rattle.rights.specs.Questions.{Full}
 use Rattle.tight.specs.Blocks.{once, block, zeros, halfBytes, giving, moving, nothing, reads, give, withdraw}
 
 pub data Case : Type 0 where
-  -- on the block, the user holds these rights on the object
-  rights : (block : List ℕ) (user object mask : ℕ) → Case
+  -- on the block, the user holds these rights on the object, and so many M records are examined on the user's side and on the
+  -- object's
+  rights : (block : List ℕ) (user object mask of-user of-object : ℕ) → Case
   -- on the block, the user holds these rights on every object
   everywhere : (block : List ℕ) (user mask : ℕ) → Case
   -- the set of the kind and key in the block has n records and is written so, and the text is read back
@@ -34,8 +35,8 @@ abbrev pub Anywhere : (List ℕ → ℕ → ℕ → Type 0) → Type 0
 Anywhere P = (b : List ℕ) (kind x : ℕ) → Sized b → Good b → IsKind kind → IsName x → P b kind x
 
 abbrev pub Shows : Case → Type 0
-Shows (Case.rights b u o mask) = Full b u o allRights (0, mask)
-Shows (Case.everywhere b u mask) = (o : ℕ) → IsName o → Full b u o allRights (0, mask)
+Shows (Case.rights b u o mask i j) = Full b u o allRights (0, mask, i, j)
+Shows (Case.everywhere b u mask) = (o : ℕ) → IsName o → (i : ℕ) × (j : ℕ) × Full b u o allRights (0, mask, i, j)
 Shows (Case.text b kind x t n) =
     ((out : List ℕ) → length t ≤ length out → WritesSet b kind x out (0, length t, t ++ drop (length t) out))
     × ReadsSet b kind x t (0, n, b)
@@ -71,9 +72,9 @@ abbrev pub masks : List Case
 masks =
     -- "P mask 135 gives net 7; 79 gives 11."
     Case.accepted nothing (giving 2 9 1 135) (granted 135)
-    ∷ Case.rights (granted 135) 1 9 7
+    ∷ Case.rights (granted 135) 1 9 7 0 0
     ∷ Case.accepted nothing (giving 2 9 1 79) (granted 79)
-    ∷ Case.rights (granted 79) 1 9 11 ∷ []
+    ∷ Case.rights (granted 79) 1 9 11 0 0 ∷ []
 
 abbrev pub texts : List Case
 texts =
@@ -104,18 +105,62 @@ places =
 abbrev pub chains : List Case
 chains =
     -- "M records 1→2 (R), 1→3 (MRUP), 3→2 (MRUP); P key 9 id 2 MRUP: user 1 holds 15 on 9."
-    Case.rights (block (once 1 2 2 ∷ once 1 3 15 ∷ once 3 2 15 ∷ []) (once 9 2 15 ∷ []) [] 0) 1 9 15
+    Case.rights (block (once 1 2 2 ∷ once 1 3 15 ∷ once 3 2 15 ∷ []) (once 9 2 15 ∷ []) [] 0) 1 9 15 3 0
     -- "1→2 (R), 2→3 (U), P key 9 id 3 MRUP: user 1 holds 0 on 9."
-    ∷ Case.rights (block (once 1 2 2 ∷ once 2 3 4 ∷ []) (once 9 3 15 ∷ []) [] 0) 1 9 0
+    ∷ Case.rights (block (once 1 2 2 ∷ once 2 3 4 ∷ []) (once 9 3 15 ∷ []) [] 0) 1 9 0 2 0
     -- "1→1 alone, P key 0 id 1 R: user 1 holds 2 on every object."
     ∷ Case.everywhere (block (once 1 1 2 ∷ []) (once 0 1 2 ∷ []) [] 0) 1 2
     -- "P key 9 id 1 MRUP, F key 9 id 20 RU, F key 9 id 21 R": M-102: "The example with two filters then gives 2 in place of 6."
-    ∷ Case.rights (block [] (once 9 1 15 ∷ []) (once 9 20 6 ∷ once 9 21 2 ∷ []) 0) 1 9 2
+    ∷ Case.rights (block [] (once 9 1 15 ∷ []) (once 9 20 6 ∷ once 9 21 2 ∷ []) 0) 1 9 2 0 0
     -- M-102: "every F record keyed by the object or by any group its M records name". Of the groups 3 (RUP) and 12 (MRP) and the
     -- object 9 itself (MRU) each takes away a right that the other two let through. 9 is in 3 for M, in 12 for P.
     ∷ Case.rights
     (block (once 9 3 1 ∷ once 9 12 8 ∷ []) (once 9 1 15 ∷ []) (once 3 20 14 ∷ once 9 20 7 ∷ once 12 20 11 ∷ []) 0)
-    1 9 2 ∷ []
+    1 9 2 0 2 ∷ []
+
+-- M-109: 1 is in four groups, with a right each, and these stand in a ring, each a member of the next with all rights. In each round
+-- a right more comes to each of the four.
+abbrev pub ring : List ℕ
+ring =
+    block
+    (once 1 2 1 ∷ once 1 3 2 ∷ once 1 4 4 ∷ once 1 5 8 ∷ once 2 3 15 ∷ once 3 4 15 ∷ once 4 5 15 ∷ once 5 2 15 ∷ [])
+    [] (once 9 20 1 ∷ []) 0
+
+-- The same ring with five memberships of 2 more.
+abbrev pub crowd : List ℕ
+crowd =
+    block
+    (once 1 2 1
+    ∷ once 1 3 2
+    ∷ once 1 4 4
+    ∷ once 1 5 8
+    ∷ once 2 3 15
+    ∷ once 2 6 15
+    ∷ once 2 7 15
+    ∷ once 2 8 15
+    ∷ once 2 9 15
+    ∷ once 2 10 15
+    ∷ once 3 4 15
+    ∷ once 4 5 15
+    ∷ once 5 2 15
+    ∷ [])
+    [] [] 0
+
+abbrev pub examined : List Case
+examined =
+    -- M-109: "the M records whose key's mark differs from the round before": those of 1 in round 0, and each of the ring's four in
+    -- rounds 1 to 4, so 4 and four times 4; for the start 2 its own in round 0, and then one after the other, so 4. "Request, filter
+    -- and markers have no part in it": no right is held, and one filter of the object lets one right through.
+    Case.rights ring 1 9 0 20 0
+    ∷ Case.rights ring 9 1 0 0 20
+    ∷ Case.rights ring 2 4 0 4 4
+    -- Of 13 records, 4 once and 9 four times: more than three times 13.
+    ∷ Case.rights crowd 1 11 0 40 0
+    -- A member of itself is examined once, and what nobody is in, not at all.
+    ∷ Case.rights (block (once 1 1 2 ∷ once 3 1 15 ∷ []) [] [] 0) 1 2 0 1 0
+    -- 0 stands in full for every object, but that is no mark: its own records are examined only where a chain leads to it.
+    ∷ Case.rights (block (once 0 5 15 ∷ once 8 0 2 ∷ []) (once 0 1 15 ∷ []) [] 0) 1 9 15 0 0
+    ∷ Case.rights (block (once 0 5 15 ∷ once 8 0 2 ∷ []) (once 0 1 15 ∷ []) [] 0) 1 8 15 0 2 ∷ []
 
 abbrev pub appointments : List Case
 appointments =
@@ -123,9 +168,9 @@ appointments =
     Case.accepted nothing give (reads 1)
     ∷ Case.accepted (reads 1) give (reads 2)
     ∷ Case.accepted (reads 2) withdraw (reads 1)
-    ∷ Case.rights (reads 1) 1 9 2
+    ∷ Case.rights (reads 1) 1 9 2 0 0
     ∷ Case.accepted (reads 1) withdraw nothing
-    ∷ Case.rights nothing 1 9 0 ∷ []
+    ∷ Case.rights nothing 1 9 0 0 0 ∷ []
 
 abbrev pub limits : List Case
 limits =
@@ -137,6 +182,6 @@ limits =
     ∷ Case.accepted (reads 1) (moving 2 (halfBytes 9 1 2) (halfBytes 10 1 2)) (block [] (once 10 1 2 ∷ []) [] 0)
     ∷ Case.refused (reads 1) (giving 2 10 1 2) 8 ∷ []
 
--- All of them, in 01's order, with what M-101 and M-102 add.
+-- All of them, in 01's order, with what M-101, M-102 and M-109 add.
 abbrev pub cases : List Case
-cases = masks ++ (texts ++ (places ++ (chains ++ (appointments ++ limits))))
+cases = masks ++ (texts ++ (places ++ (chains ++ (examined ++ (appointments ++ limits)))))

@@ -11,13 +11,14 @@ use Rattle.index.specs.History.{Labelled, Statement, left, after, tally}
 use Rattle.index.specs.History.Sent.{plain}
 use Rattle.rights.specs.Questions.{Full, Short}
 
--- Each call gives the number, the value, if it has one, and the lent bytes then, if it may change any.
+-- Each call gives the number, the value, if it has one, and the lent bytes then, if it may change any; the full question has three
+-- values, the rights and how many M records were examined on the user's side and on the object's.
 pub record Program : Type 0 where
   pub make : (block : List ℕ) → ℕ × List ℕ
   pub message : (block message : List ℕ) → ℕ × List ℕ
   pub write : (block : List ℕ) (kind key : ℕ) (out : List ℕ) → ℕ × ℕ × List ℕ
   pub read : (block : List ℕ) (kind key : ℕ) (text : List ℕ) → ℕ × ℕ × List ℕ
-  pub rights : (block : List ℕ) (user object request : ℕ) → ℕ × ℕ
+  pub rights : (block : List ℕ) (user object request : ℕ) → ℕ × ℕ × ℕ × ℕ
   pub may : (block : List ℕ) (user object request : ℕ) → ℕ × ℕ
 
 pub record Meets (p : Program) : Type 0 where
@@ -44,9 +45,14 @@ pub data RefusesEverything (p : Program) : Type 0 where
   full : ((b : List ℕ) (u o request : ℕ) → 0 < p .rights b u o request .0) → RefusesEverything p
   short : ((b : List ℕ) (u o request : ℕ) → 0 < p .may b u o request .0) → RefusesEverything p
 
--- "One that grants the same mask always", or gives the same answer to each short question that it accepts.
+-- "One that grants the same mask always", or gives the same answer to each short question that it accepts, or reports the same
+-- number of records examined on one of the sides.
 pub data AnswersTheSame (p : Program) : Type 0 where
   full : (mask : ℕ) → ((b : List ℕ) (u o request : ℕ) → p .rights b u o request .0 ≡ 0 → p .rights b u o request .1 ≡ mask)
+      → AnswersTheSame p
+  user : (n : ℕ) → ((b : List ℕ) (u o request : ℕ) → p .rights b u o request .0 ≡ 0 → p .rights b u o request .2 ≡ n)
+      → AnswersTheSame p
+  object : (n : ℕ) → ((b : List ℕ) (u o request : ℕ) → p .rights b u o request .0 ≡ 0 → p .rights b u o request .3 ≡ n)
       → AnswersTheSame p
   short : (answer : ℕ) → ((b : List ℕ) (u o request : ℕ) → p .may b u o request .0 ≡ 0 → p .may b u o request .1 ≡ answer)
       → AnswersTheSame p

@@ -66,33 +66,33 @@ granted-requires c κs = let a = all (c .before .before) in ((a .sized, a .good)
 -- The rights reached are those requested exactly where all are held.
 whole : (c : tie.After-granted)
     → let args = start (c .before .before .before) .args in
-    (c .granted .result ≡ args .request) ↔ HoldsAll (args .block .now) (args .user) (args .object) (args .request)
+    (c .granted .result .rights ≡ args .request) ↔ HoldsAll (args .block .now) (args .user) (args .object) (args .request)
 whole c =
     let at = c .before .before .before in
     let args = start at .args in
     covered (args .block .now) (args .user) (args .object) (args .request) (all at .small)
-    (mask-limited (c .before .before .filter-of .ensures) (args .request)) (c .before .if2 .left) (c .granted .ensures)
+    (mask-limited (c .before .before .filter-of .ensures) (args .request)) (c .before .if2 .left) (c .granted .ensures .0)
 
 returns-3 : tie.Need-returns-3
 unfolding AsksAll Short
 returns-3 c =
-    let start = c .before .before .before .before .before .before .before in
+    let start = c .before .before .before .before .before .before .before .before in
     let b = start .args .block .now in
     let u = start .args .user in
     let o = start .args .object in
     let q = start .args .request in
-    accepts b u o q (λ n. (n, 0)) (Answered b u o q) (0, 1) (all (c .before .before .before .before)) (yes b u o q (whole (c .before) .0 (c .if3 .taken)))
+    accepts b u o q (λ n. (n, 0)) (Answered b u o q) (0, 1) (all (c .before .before .before .before .before)) (yes b u o q (whole (c .before .before) .0 (c .if3 .taken)))
 
 returns-4 : tie.Need-returns-4
 unfolding AsksAll Short
 returns-4 c =
-    let start = c .before .before .before .before .before .before .before in
+    let start = c .before .before .before .before .before .before .before .before in
     let b = start .args .block .now in
     let u = start .args .user in
     let o = start .args .object in
     let q = start .args .request in
-    accepts b u o q (λ n. (n, 0)) (Answered b u o q) (0, 0) (all (c .before .before .before .before))
-    (no b u o q (λ h. c .if3 .left (whole (c .before) .1 h)))
+    accepts b u o q (λ n. (n, 0)) (Answered b u o q) (0, 0) (all (c .before .before .before .before .before))
+    (no b u o q (λ h. c .if3 .left (whole (c .before .before) .1 h)))
 
 pub may-spec : {M : Type 1} → statement M
 may-spec =

@@ -1,9 +1,9 @@
--- `questions::rights_of` meets its contract: the refusal, or the rights held.
-use mathlib.Core.Path.{_≡_, refl}
+-- `questions::rights_of` meets its contract: the refusal, or the rights held and the records examined.
+use mathlib.Core.Path.{refl}
 use native.Mathlib.Omega.{arith}
 use borrow.Author.Needs.{needs}
 use Rattle.index.proofs.Masks.{mask-limited}
-use Rattle.rights.specs.Questions.{Limited, Full, Asks}
+use Rattle.rights.specs.Questions.{Reports, unreported, Full, Asks}
 use Rattle.rights.proofs.Asking.{Asked, asked, positive, refused, accepts, limited}
 use Rattle.rights.proofs.questions.rights_of.Statement.{statement}
 use Rattle.rights.proofs.questions.rights_of.Tie as tie
@@ -17,7 +17,7 @@ returns c =
     let o = start .args .object in
     let q = start .args .request in
     let some = positive (c .before .refusal .result) (c .if1 .taken) in
-    (some, refused b u o q (λ n. (n, 0)) (λ a. (a .0 ≡ 0) × Limited b u o q (a .1)) (c .before .refusal .result) some (c .before .refusal .ensures))
+    (some, refused b u o q unreported (Reports b u o q) (c .before .refusal .result) some (c .before .refusal .ensures))
 
 -- All that the question needs holds.
 module _ (c : tie.Else1) where
@@ -46,8 +46,10 @@ returns-2 c =
     let u = start .args .user in
     let o = start .args .object in
     let q = start .args .request in
-    accepts b u o q (λ n. (n, 0)) (λ a. (a .0 ≡ 0) × Limited b u o q (a .1)) (0, c .granted .result) (all (c .before .before))
-    (refl, limited b u o q (mask-limited (c .before .filter-of .ensures) q) (c .granted .ensures))
+    let reach = c .granted .result in
+    let told = c .granted .ensures in
+    accepts b u o q unreported (Reports b u o q) (0, reach .rights, reach .user, reach .object) (all (c .before .before))
+    (refl, limited b u o q (mask-limited (c .before .filter-of .ensures) q) (told .0), told .1 .0 .sum, told .1 .1 .sum)
 
 pub rights-of-spec : {M : Type 1} → statement M
 rights-of-spec =

@@ -5,10 +5,9 @@ use mathlib.Core.Logic.{⊎-elim}
 use native.Mathlib.Omega.{arith}
 use borrow.Author.Needs.{needs}
 use lib.ListN.{getD}
-use Rattle.index.specs.declared.Kind.the-variants.{Membership}
-use Rattle.index.specs.Block.{IsName, Sized, size}
-use Rattle.index.proofs.Records.{gap-in}
+use Rattle.index.specs.Block.{IsName}
 use Rattle.rights.specs.Fronts.{Firsts, Turn}
+use Rattle.rights.proofs.ByNumber.{no-more-members}
 use Rattle.rights.proofs.Starting.{turn-of, turns-more, known, now, firsts-set, turns-set}
 use Rattle.rights.proofs.walk.look_up.Statement.{statement}
 use Rattle.rights.proofs.walk.look_up.Tie as tie
@@ -33,11 +32,9 @@ module _ (c : tie.After-shared-slice-known3 Inv-loop μ-loop) where
 
 -- The number of its first record is small.
 small : (c : tie.After-lowest Inv-loop μ-loop) → c .lowest .result < 65535
-unfolding Sized
 small c =
     let start = start (c .before .before .before) in
-    let b = start .args .block .now in
-    omega (arith, c .lowest .ensures .high, start .pre .0 .1, start .pre .1 .0 .fits, gap-in Membership b (size b Membership) (omega arith))
+    omega (arith, c .lowest .ensures .high, no-more-members (start .pre .0) (start .pre .1 .0))
 
 loop-holds : tie.Need-loop-holds Inv-loop μ-loop
 loop-holds c = (omega arith, c .before .before .before .pre .1 .1 .1, λ i h. absurd (omega arith))

@@ -3,17 +3,20 @@ use Prim.Native.Nat.{_-_, _≤_}
 use mathlib.Core.Path.{_≡_, sym, _∙_}
 use native.Mathlib.Omega.{arith}
 use borrow.Author.Needs.{needs}
+use Rattle.index.specs.declared.Kind.the-variants.{Membership}
+use Rattle.index.specs.Block.{size}
 use Rattle.rights.specs.Fronts.{Rooms, Through, Swept}
+use Rattle.rights.proofs.Counting.{count-none}
 use Rattle.rights.proofs.Fronts.{front-none}
 use Rattle.rights.proofs.Rounding.{spread-none}
 use Rattle.rights.proofs.walk.round.Statement.{statement}
 use Rattle.rights.proofs.walk.round.Tie as tie
 
 abbrev Inv-loop : tie.InvT-loop
-Inv-loop block carry names len firsts from to₀ next₀ n₀ j₀ to next n j = (j ≤ len) × Rooms to next × Swept block carry from names j to next n
+Inv-loop block carry names len firsts from to₀ next₀ sweep₀ j₀ to next sweep j = (j ≤ len) × Rooms to next × Swept block carry from names j to next sweep
 
 abbrev μ-loop : tie.MeasureT-loop
-μ-loop block carry names len firsts from to₀ next₀ n₀ j₀ to next n j = len - j
+μ-loop block carry names len firsts from to₀ next₀ sweep₀ j₀ to next sweep j = len - j
 
 loop-holds : tie.Need-loop-holds Inv-loop μ-loop
 loop-holds c =
@@ -26,6 +29,7 @@ loop-holds c =
       rw (start .pre .1 .0) (record {
         brought = spread-none b (start .args .carry) ms (Through b names 0) (start .pre .0 .1 .0) (λ i a. omega (arith, a .1));
         front = front-none ms (start .args .next .now);
+        counted = count-none (Through b names 0) (size b Membership) (λ i l a. omega (arith, a .1));
       }),
     )
 

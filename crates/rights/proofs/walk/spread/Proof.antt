@@ -2,29 +2,32 @@
 -- bring, and the names whose marks have grown.
 use Prim.Native.Nat.{ℕ, _+_, _-_, _%_, _/_, _<_, _≤_}
 use mathlib.Core.Path.{_≡_, sym, _∙_}
+use mathlib.Core.List.{List}
 use mathlib.Core.Logic.{_⊎_, inl, inr, ⊎-elim}
 use native.Mathlib.Omega.{arith}
 use borrow.Author.Needs.{needs}
 use lib.ListN.{length, getD, set, length-set}
 use lib.Bits.{bitOr, bitAnd, or-add-and, and-le-r}
 use Rattle.index.specs.declared.Kind.the-variants.{Membership}
-use Rattle.index.specs.Block.{IsName, Of, key, id}
+use Rattle.index.specs.Block.{nameCount, IsName, size, Of, key, id}
 use Rattle.index.proofs.Answer.{yes-is, no-is}
 use Rattle.index.proofs.Records.{of-records}
+use Rattle.rights.specs.Examined.{HowMany}
 use Rattle.rights.specs.Fronts.{Rooms, Front, Spread, Through}
-use Rattle.rights.proofs.ByNumber.{id-name, pair-key, pair-id}
+use Rattle.rights.proofs.ByNumber.{few-members, id-name, pair-key, pair-id}
+use Rattle.rights.proofs.Counting.{at-most}
 use Rattle.rights.proofs.Fronts.{front-few, front-keep, front-push}
 use Rattle.rights.proofs.Looking.{Own, own-none, own-more}
-use Rattle.rights.proofs.Rounding.{Upto, spread-map, spread-set, upto-none, upto-more, through-more}
+use Rattle.rights.proofs.Rounding.{Upto, spread-map, spread-set, upto-none, upto-more, through-more, counted-more}
 use Rattle.rights.proofs.walk.spread.Statement.{statement}
 use Rattle.rights.proofs.walk.spread.Tie as tie
 
 abbrev Inv-loop : tie.InvT-loop
-Inv-loop block carry names j firsts from to₀ next₀ len end x mark n₀ i₀ to next n i =
-    (i₀ ≤ i) × (i ≤ end) × Own block x i₀ i × Rooms to next × Spread block carry from (Upto block names j i₀ i) to × Front from to next n
+Inv-loop block carry names j firsts from to₀ next₀ sweep end x mark first n₀ i₀ to next n i =
+    (first ≤ i) × (i ≤ end) × Own block x first i × Rooms to next × Spread block carry from (Upto block names j first i) to × Front from to next n
 
 abbrev μ-loop : tie.MeasureT-loop
-μ-loop block carry names j firsts from to₀ next₀ len end x mark n₀ i₀ to next n i = end - i
+μ-loop block carry names j firsts from to₀ next₀ sweep end x mark first n₀ i₀ to next n i = end - i
 
 -- The name, and where its records start.
 module _ (s : tie.Start Inv-loop μ-loop) where
@@ -37,6 +40,10 @@ module _ (s : tie.Start Inv-loop μ-loop) where
 -- The start of the function, seen from the loop.
 abbrev start : tie.At-loop Inv-loop μ-loop → tie.Start Inv-loop μ-loop
 start c = c .before .before .before .before .before .before .before .before .before .before .before
+
+-- There is room for one name more.
+few : (c : tie.At-loop Inv-loop μ-loop) → c .loop .n ≤ nameCount
+few c = front-few (c .loop .inv .5) (start c .pre .0 .1 .0 .names) (c .loop .inv .3 .of-marks)
 
 loop-holds : tie.Need-loop-holds Inv-loop μ-loop
 loop-holds c =
@@ -101,34 +108,48 @@ loop-again c =
       ⊎-elim
           (λ w.
           let t = yes-is (w .0 .taken) (joined .ensures) in
-          rw (w .1) (front-push (inv .5) y (bitOr old more) inside up (omega (arith, front-few (inv .5), inv .3 .of-names)) (y-in h) (t .0) (t .1)))
+          rw (w .1) (front-push (inv .5) y (bitOr old more) inside up (omega (arith, few (at h), inv .3 .of-names)) (t .0) (t .1)))
           (λ w. rw (w .1) (front-keep (inv .5) y (bitOr old more) inside up (λ t. no-is (w .0 .left) t (joined .ensures))))
           (c .if2 .came),
     )
 
+-- The loop is left at the end of the part, or at a record of another name.
+module _ (c : tie.Left-loop Inv-loop μ-loop) where
+  abbrev s : tie.Start Inv-loop μ-loop
+  s = start (c .before)
+
+  abbrev b : List ℕ
+  b = s .args .block .now
+
+  abbrev e : ℕ
+  e = c .before .loop .i
+
+  stop : (e ≡ size b Membership) ⊎ (key b e ≡ x s → ⊥)
+  stop =
+      ⊎-elim (λ w. inl (omega (arith, w .left, c .before .loop .inv .1)))
+      (λ w.
+      let h : tie.After-pair-of Inv-loop μ-loop = record { before = record { before = c .before; loop-test = w .0 }; pair-of = w .1 } in
+      inr (λ q. w .2 .taken (is-key h ∙ q)))
+      (c .loop-test .came)
+
+  counted : HowMany (Through b (s .args .names .now) (s .args .j + 1)) (size b Membership) (s .args .sweep .examined + (e - f s))
+  counted =
+      let inv = c .before .loop .inv in
+      counted-more (s .args .names .now) (s .args .j) (f s) e (s .pre .0 .0) (s .pre .1 .0 .starts) (inv .0) (omega (arith, inv .1)) (inv .2) stop (s .pre .1 .0 .new)
+      (s .pre .1 .1 .counted)
+
 returns : tie.Need-returns Inv-loop μ-loop
 returns c =
-    let s = start (c .before) in
-    let loop = c .before .loop in
+    let at = c .before in
+    let loop = at .before .loop in
     let inv = loop .inv in
+    let args = s at .args in
     record {
       brought =
-          through-more (s .args .carry) (s .args .from .now) (s .args .names .now) (s .args .j) (f s) (loop .i) (loop .to) (s .pre .0 .0) (s .pre .1 .0 .starts)
-          (inv .0) (omega arith) (inv .2) (inl (omega arith)) (inv .4);
+          through-more (args .carry) (args .from .now) (args .names .now) (args .j) (f (s at)) (loop .i) (loop .to) (s at .pre .0 .0) (s at .pre .1 .0 .starts)
+          (inv .0) (omega (arith, inv .1)) (inv .2) (stop at) (inv .4);
       front = inv .5;
-    }
-
-returns-2 : tie.Need-returns-2 Inv-loop μ-loop
-returns-2 c =
-    let h = c .before in
-    let s = start (at h) in
-    let loop = h .before .before .loop in
-    let inv = loop .inv in
-    record {
-      brought =
-          through-more (s .args .carry) (s .args .from .now) (s .args .names .now) (s .args .j) (f s) (loop .i) (loop .to) (s .pre .0 .0) (s .pre .1 .0 .starts)
-          (inv .0) (omega arith) (inv .2) (inr (λ e. c .if1 .taken (is-key h ∙ e))) (inv .4);
-      front = inv .5;
+      counted = counted at;
     }
 
 -- The marks and the list are as long as they were.
@@ -160,17 +181,16 @@ spread-spec =
     (λ c κs. (start (at (c .before .before)) .pre .0 .0, of (c .before .before)))
     (λ c. omega (arith, y-in (c .before .before .before), c .before .before .before .before .before .loop .inv .3 .of-marks))
     (λ c. omega (arith, y-in (c .before .before .before)))
-    (λ c. omega (arith, front-few (c .before .before .before .before .before .loop .inv .5)))
-    (λ c. omega (arith, front-few (c .before .before .before .before .before .loop .inv .5), c .before .before .before .before .before .loop .inv .3 .of-names))
+    (λ c. omega (arith, few (c .before .before .before .before .before)))
+    (λ c. omega (arith, few (c .before .before .before .before .before), c .before .before .before .before .before .loop .inv .3 .of-names))
     (λ c. omega (arith, y-in (c .before .before .before .before), start (at (c .before .before .before .before)) .pre .0 .1 .0 .names))
     (λ c κs. search needs)
-    (λ c. omega (arith, front-few (c .before .before .before .before .before .before .before .before .loop .inv .5)))
+    (λ c. omega (arith, few (c .before .before .before .before .before .before .before .before)))
     (λ c. search needs)
     (λ c. search needs)
     loop-again
-    (λ c. of-marks (c .before))
-    (λ c. of-names (c .before))
-    returns
-    (λ c. of-marks (c .before .before .before))
-    (λ c. of-names (c .before .before .before))
-    returns-2)
+    (λ c. omega (arith, c .before .loop .inv .0))
+    (λ c. omega (arith, at-most (counted (c .before)), few-members (start (c .before .before) .pre .0 .0)))
+    (λ c. of-marks (c .before .before))
+    (λ c. of-names (c .before .before))
+    returns)
