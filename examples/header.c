@@ -1,5 +1,5 @@
 /* Tests what the header gives beside the calls of the rules, as C99 and as C++11: the helpers, the longest text, the places of
- * wrong texts, and the calls that go through a block record by record. */
+ * wrong texts, the parts of a full question's answer, and the calls that go through a block record by record. */
 #include "anaqsiro.h"
 
 #include <stdio.h>
@@ -11,7 +11,7 @@
 #define LANGUAGE "C"
 #endif
 
-enum { KEY = 7, ROOM = 4 };
+enum { KEY = 7, ROOM = 4, MEMBERSHIPS = 8 };
 
 static unsigned tests, failures;
 
@@ -160,6 +160,58 @@ static void test_places(void) {
     same("the block as it was", memcmp(block, before, sizeof block) == 0, 1);
 }
 
+/* The same of the parts of an answer of anaqsiro_rights. */
+static void same_parts(const char *what, uint64_t answer, uint64_t held, uint64_t user, uint64_t object) {
+    same(what, anaqsiro_held(answer), held);
+    same(what, anaqsiro_user_examined(answer), user);
+    same(what, anaqsiro_object_examined(answer), object);
+}
+
+/* Each mask of rights beside numbers up to the greatest: no part runs into another. All parts of a refusal are 0. */
+static void test_parts(void) {
+    static const uint64_t numbers[] = {0, 1, 20, ANAQSIRO_EXAMINED_MAX - 1, ANAQSIRO_EXAMINED_MAX};
+    const size_t how_many = sizeof numbers / sizeof *numbers;
+    for (uint64_t held = 0; held <= ANAQSIRO_ALL; held++) {
+        for (size_t pair = 0; pair < how_many * how_many; pair++) {
+            const uint64_t user = numbers[pair / how_many], object = numbers[pair % how_many];
+            same_parts("parts", held + 16 * user + 262144 * object, held, user, object);
+        }
+    }
+    same_parts("the greatest", 2147614735u, 15, 8192, 8192);
+    for (uint64_t number = 1; number <= ANAQSIRO_TEXT_LONG; number++) {
+        same_parts("a refusal", number << 32, 0, 0, 0);
+    }
+}
+
+/* The groups of the names 1 to 5. Each right comes to 2, 3, 4 and 5 in a round of its own, so that their records are examined
+ * four times each, and those of 1 once. */
+static const char *const groups[] = {"2;M;3;R;4;U;5;P", "3;MRUP", "4;MRUP", "5;MRUP", "2;MRUP"};
+
+/* What questions about them report, as the user's groups and as the object's, whatever is requested or held. A refused one
+ * reports 0. */
+static void test_examined(void) {
+    uint8_t block[ANAQSIRO_BLOCK_MIN + (MEMBERSHIPS + 1) * ANAQSIRO_RECORD];
+    anaqsiro_make(block, sizeof block);
+    for (size_t i = 0; i < sizeof groups / sizeof *groups; i++) {
+        anaqsiro_read(block, sizeof block, ANAQSIRO_MEMBERSHIP, i + 1, (const uint8_t *)groups[i], strlen(groups[i]));
+    }
+    same("memberships", anaqsiro_size(block, sizeof block, ANAQSIRO_MEMBERSHIP), MEMBERSHIPS);
+    const uint64_t nothing_held = anaqsiro_rights(block, sizeof block, 1, KEY, ANAQSIRO_ALL);
+    same_parts("nothing held", nothing_held, 0, 20, 0);
+    same("a value all the same", anaqsiro_value(nothing_held), 320);
+    same("no", anaqsiro_may(block, sizeof block, 1, KEY, ANAQSIRO_ALL), 0);
+
+    same("a grant", anaqsiro_read(block, sizeof block, ANAQSIRO_PERMISSION, KEY, (const uint8_t *)"4;RU", 4), 1);
+    same_parts("all requested", anaqsiro_rights(block, sizeof block, 1, KEY, ANAQSIRO_ALL), 6, 20, 0);
+    same_parts("one requested", anaqsiro_rights(block, sizeof block, 1, KEY, ANAQSIRO_UPDATE), 4, 20, 0);
+    same_parts("the object's side", anaqsiro_rights(block, sizeof block, KEY, 1, ANAQSIRO_ALL), 0, 0, 20);
+    same_parts("both sides", anaqsiro_rights(block, sizeof block, 2, 1, ANAQSIRO_ALL), 0, 4, 20);
+
+    const uint64_t refused = anaqsiro_rights(block, sizeof block, 1, ANAQSIRO_NAMES, ANAQSIRO_ALL);
+    same("refused", anaqsiro_number(refused), ANAQSIRO_NAME);
+    same_parts("refused", refused, 0, 0, 0);
+}
+
 /* The calls that go through a block, on a good block of three records, on numbers past it, and on one that is not good. */
 static void test_records(void) {
     uint8_t block[ANAQSIRO_BLOCK_MIN + ROOM * ANAQSIRO_RECORD];
@@ -206,6 +258,8 @@ int main(void) {
     test_wide_numbers();
     test_longest_text();
     test_places();
+    test_parts();
+    test_examined();
     test_records();
     printf("include/anaqsiro.h as " LANGUAGE ": %u tests, %u failed\n", tests, failures);
     return failures > 0;

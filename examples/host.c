@@ -1,11 +1,11 @@
-/* The mill's story, told by a host program: two appointments give a right, one ends, and the right stands. Then the desk reads
- * in texts that are wrong, and is shown where. */
+/* The mill's story, told by a host program: two appointments give a right, one ends, and the right stands. A tablet's maker is
+ * told how many memberships the question examined. Then the desk reads in texts that are wrong, and is shown where. */
 #include "anaqsiro.h"
 
 #include <stdio.h>
 #include <string.h>
 
-enum { ROOM = 8, PLANNER = 1, REQUESTS = 9, COPY = 10 };
+enum { ROOM = 8, PLANNER = 1, PLANNERS = 2, STAFF = 3, PAPERS = 8, REQUESTS = 9, COPY = 10 };
 
 static uint8_t block[ANAQSIRO_BLOCK_MIN + ROOM * ANAQSIRO_RECORD];
 
@@ -19,11 +19,27 @@ static uint32_t told(const char *what, uint64_t answer) {
     return anaqsiro_value(answer);
 }
 
-/* Applies a permission's message to the block. */
-static void apply(const char *what, const struct anaqsiro_half *previous, const struct anaqsiro_half *new_half) {
+/* Applies a message to the block. */
+static void apply(const char *what, uint64_t kind, const struct anaqsiro_half *previous, const struct anaqsiro_half *new_half) {
     uint8_t message[ANAQSIRO_MESSAGE];
-    anaqsiro_put_message(message, ANAQSIRO_PERMISSION, previous, new_half);
+    anaqsiro_put_message(message, kind, previous, new_half);
     told(what, anaqsiro_message(block, sizeof block, message, sizeof message));
+}
+
+/* Makes a name a member of a group, with all that the group may do. */
+static void join(uint64_t name, uint64_t group) {
+    const struct anaqsiro_half member = {name, group, ANAQSIRO_ALL};
+    apply("a membership", ANAQSIRO_MEMBERSHIP, NULL, &member);
+}
+
+/* Asks what the planner may do with the purchase requests, and says how many memberships were examined for it. */
+static void ask_all(void) {
+    char letters[ANAQSIRO_LETTERS + 1];
+    const uint64_t answer = anaqsiro_rights(block, sizeof block, PLANNER, REQUESTS, ANAQSIRO_ALL);
+    told("rights", answer);
+    printf("rights on the requests: %s\n", anaqsiro_put_letters(letters, anaqsiro_held(answer)));
+    printf("memberships examined: %u for the planner, %u for the requests\n", anaqsiro_user_examined(answer),
+           anaqsiro_object_examined(answer));
 }
 
 /* Asks whether the planner may release the purchase requests. */
@@ -78,13 +94,14 @@ int main(void) {
     const struct anaqsiro_half may_release = {REQUESTS, PLANNER, ANAQSIRO_UPDATE};
 
     told("make", anaqsiro_make(block, sizeof block));
-    apply("first appointment", NULL, &may_release);
-    apply("second appointment", NULL, &may_release);
+    join(PLANNER, PLANNERS);
+    join(PLANNERS, STAFF);
+    join(REQUESTS, PAPERS);
+    apply("first appointment", ANAQSIRO_PERMISSION, NULL, &may_release);
+    apply("second appointment", ANAQSIRO_PERMISSION, NULL, &may_release);
     print_records();
-    apply("the first ends", &may_release, NULL);
-    char letters[ANAQSIRO_LETTERS + 1];
-    const uint32_t held = told("rights", anaqsiro_rights(block, sizeof block, PLANNER, REQUESTS, ANAQSIRO_ALL));
-    printf("rights on the requests: %s\n", anaqsiro_put_letters(letters, held));
+    apply("the first ends", ANAQSIRO_PERMISSION, &may_release, NULL);
+    ask_all();
     ask();
 
     uint8_t text[64];
@@ -95,8 +112,8 @@ int main(void) {
            told("read", anaqsiro_read(block, sizeof block, ANAQSIRO_PERMISSION, COPY, text, length)));
     print_records();
 
-    apply("the second ends", &may_release, NULL);
-    apply("a third would end", &may_release, NULL);
+    apply("the second ends", ANAQSIRO_PERMISSION, &may_release, NULL);
+    apply("a third would end", ANAQSIRO_PERMISSION, &may_release, NULL);
     ask();
     told("a name past 16 bits", anaqsiro_rights(block, sizeof block, (1u << 16) + PLANNER, REQUESTS, ANAQSIRO_ALL));
 

@@ -6,10 +6,14 @@
  * call leaves every lent byte as it was. Its value is 0, but for one: a text that anaqsiro_read refuses with 9 comes back with
  * its place.
  *
+ * - THE VALUE OF anaqsiro_rights IS NOT THE RIGHTS. Until 0.3 it was. Since 0.4 it has two more numbers in it, and can be above
+ *   0 where no right is held: if (anaqsiro_value(anaqsiro_rights(..))) would take that for a yes. Take the rights by
+ *   anaqsiro_held.
  * - anaqsiro_read CHANGES THE BLOCK, anaqsiro_write DOES NOT. The first reads a text into the block: the records that it had
  *   of that kind and key are gone. The second writes a text out of the block.
- * - A REFUSAL IS NOT ZERO: if (anaqsiro_may(..)) would take it for a yes. Test anaqsiro_value of the answer, which is 0 for
- *   every refusal of a question. Test anaqsiro_number of what anaqsiro_read gives, whose value may be a place.
+ * - A REFUSAL IS NOT ZERO: if (anaqsiro_may(..)) would take it for a yes. Test anaqsiro_value of what anaqsiro_may gives and
+ *   anaqsiro_held of what anaqsiro_rights gives, which are 0 for every refusal. Test anaqsiro_number of what anaqsiro_read
+ *   gives, whose value may be a place.
  * - DENIALS DO NOT REACH ACROSS RECORDS. "No read" takes read out of the one permission record that it stands in; another one
  *   may still give it, to a group of the same user or on a group of the same object.
  *
@@ -32,9 +36,9 @@ extern "C" {
 /* The version of this header and its archive. The block's format is part of it: as long as the first two numbers are the same,
  * a block, a message or a text of one version is good for the other and means the same there, and every call is made and
  * answers as before. Where any of this changes, the second number rises; where something is only added, the third. */
-#define ANAQSIRO_VERSION "0.3.0"
+#define ANAQSIRO_VERSION "0.4.0"
 #define ANAQSIRO_VERSION_MAJOR 0
-#define ANAQSIRO_VERSION_MINOR 3
+#define ANAQSIRO_VERSION_MINOR 4
 #define ANAQSIRO_VERSION_PATCH 0
 
 /* ---- numbers of the rules */
@@ -52,6 +56,10 @@ extern "C" {
 #define ANAQSIRO_ROOM_MAX 2048u
 #define ANAQSIRO_BLOCK_MIN 16u
 #define ANAQSIRO_BLOCK_MAX (ANAQSIRO_BLOCK_MIN + ANAQSIRO_ROOM_MAX * ANAQSIRO_RECORD)
+
+/* No membership record is examined more than four times on one side of a question, so neither of the two numbers that
+ * anaqsiro_rights reports is above this one. */
+#define ANAQSIRO_EXAMINED_MAX (4u * ANAQSIRO_ROOM_MAX)
 
 /* A message: kind, flags, then the previous half at the first of these places and the new one at the second. A half is key, id
  * (16 bits each, low byte first) and mask; an absent half is zero bytes. anaqsiro_put_message writes one. */
@@ -118,7 +126,13 @@ uint64_t anaqsiro_make(uint8_t *block, size_t len);
 /* Applies a message to the block: takes its previous half away, then adds the new one. Numbers 0 to 8. Value 0. */
 uint64_t anaqsiro_message(uint8_t *block, size_t len, const uint8_t *message, size_t message_len);
 
-/* The rights that the user holds on the object, of those requested. Numbers 0, 1, 2, 4, 5. Value: the rights. */
+/* The rights that the user holds on the object, of those requested, and the number of membership records examined, one for the
+ * user's side and one for the object's. A name's mark in round n is the set of rights that some chain of at most n records
+ * carries to it; in round 0 the start, which is the user or the object, has all four, the others none, and before round 0
+ * nobody has any. The number is, summed over rounds 0 to 31, the membership records whose key's mark differs from the round
+ * before. It is at most four times the membership records. Request and filters have no part in it. Numbers 0, 1, 2, 4, 5.
+ * Value: the rights + 2^4 * the records examined on the user's side + 2^18 * those on the object's; anaqsiro_held,
+ * anaqsiro_user_examined and anaqsiro_object_examined take the answer apart. */
 uint64_t anaqsiro_rights(const uint8_t *block, size_t len, uint64_t user, uint64_t object, uint64_t request);
 
 /* Whether the user holds every right requested. Numbers 0, 1, 2, 4, 5. Value: 1 for yes, 0 for no. */
@@ -161,8 +175,18 @@ uint64_t anaqsiro_count(const uint8_t *block, size_t len, uint64_t number, uint6
 /* The number of an answer: 0 where the call was accepted. */
 static inline uint32_t anaqsiro_number(uint64_t answer) { return (uint32_t)(answer >> 32); }
 
-/* The value of an answer. Where the call was refused it is 0, but for the place that anaqsiro_read gives with 9. */
+/* The value of an answer. Where the call was refused it is 0, but for the place that anaqsiro_read gives with 9. That of
+ * anaqsiro_rights is made of three parts, which the next three functions give. */
 static inline uint32_t anaqsiro_value(uint64_t answer) { return (uint32_t)(answer & 0xFFFFFFFFu); }
+
+/* The rights of an answer of anaqsiro_rights, as a mask; 0 where the call was refused. */
+static inline uint32_t anaqsiro_held(uint64_t answer) { return anaqsiro_value(answer) & ANAQSIRO_ALL; }
+
+/* The membership records examined on the user's side, of an answer of anaqsiro_rights; 0 where the call was refused. */
+static inline uint32_t anaqsiro_user_examined(uint64_t answer) { return anaqsiro_value(answer) >> 4 & 0x3FFFu; }
+
+/* Those examined on the object's side. */
+static inline uint32_t anaqsiro_object_examined(uint64_t answer) { return anaqsiro_value(answer) >> 18; }
 
 /* The key of an answer of anaqsiro_record. */
 static inline uint32_t anaqsiro_key(uint64_t answer) { return anaqsiro_value(answer) & 0xFFFFu; }

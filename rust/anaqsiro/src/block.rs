@@ -2,7 +2,7 @@
 
 use crate::letters::LETTERS;
 use crate::refusal::answer;
-use crate::{raw, Kind, Name, Refusal, Rights, NAMES};
+use crate::{raw, Held, Kind, Name, Refusal, Rights, NAMES};
 use std::fmt;
 
 /// A block of bytes that holds an index.
@@ -112,11 +112,25 @@ impl Block {
             .map(drop)
     }
 
-    /// The rights that the user holds on the object, of those requested.
-    pub fn rights(&self, user: Name, object: Name, request: Rights) -> Result<Rights, Refusal> {
+    /// The rights that the user holds on the object, of those requested, and how many membership records were examined on each
+    /// side.
+    ///
+    /// ```
+    /// use anaqsiro::{Block, Kind, Rights};
+    ///
+    /// let mut block = Block::with_room(8)?;
+    /// block.read_set(Kind::Membership, 1, "2;MRUP")?; // 1 is a member of 2
+    /// block.read_set(Kind::Membership, 2, "3;R")?; // 2 is a member of 3, for reading
+    /// block.read_set(Kind::Permission, 9, "3;RU")?; // 3 may read and update 9
+    /// let held = block.rights(1, 9, Rights::ALL)?;
+    /// assert_eq!(held.rights, Rights::READ);
+    /// assert_eq!((held.user_examined, held.object_examined), (2, 0));
+    /// # Ok::<(), anaqsiro::Refusal>(())
+    /// ```
+    pub fn rights(&self, user: Name, object: Name, request: Rights) -> Result<Held, Refusal> {
+        let (block, length, request) = (self.bytes.as_ptr(), self.bytes.len(), request.mask().into());
         // SAFETY: the pointer and the length are those of one slice, which the call only reads.
-        answer(unsafe { raw::anaqsiro_rights(self.bytes.as_ptr(), self.bytes.len(), user, object, request.mask().into()) })
-            .map(|mask| Rights::from_mask(mask.into()).unwrap_or_default())
+        Held::from_answer(unsafe { raw::anaqsiro_rights(block, length, user, object, request) })
     }
 
     /// Whether the user holds every right requested on the object.

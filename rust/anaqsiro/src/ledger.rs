@@ -444,9 +444,9 @@ impl<L: Ord> Ledger<L> {
     /// let mut ledger = Ledger::with_room(8)?;
     /// let third = Message::new(Kind::Permission, half(Rights::READ), half(Rights::UPDATE));
     /// ledger.take("first", 3, third)?;
-    /// assert_eq!(ledger.block().rights(1, 9, Rights::ALL)?, Rights::NONE);
+    /// assert_eq!(ledger.block().rights(1, 9, Rights::ALL)?.rights, Rights::NONE);
     /// assert_eq!(ledger.skip("first")?, 1); // the first and the second were lost
-    /// assert_eq!(ledger.block().rights(1, 9, Rights::ALL)?, Rights::UPDATE);
+    /// assert_eq!(ledger.block().rights(1, 9, Rights::ALL)?.rights, Rights::UPDATE);
     /// let second = Message::new(Kind::Permission, half(Rights::CREATE), half(Rights::READ));
     /// assert_eq!(ledger.take("first", 2, second)?, Taken::Repeated);
     /// # Ok::<(), Box<dyn std::error::Error>>(())

@@ -32,10 +32,12 @@
 //! - [`Ledger`]: a block with its statements. Use it where messages may arrive out of order, twice or late, or where nobody
 //!   else keeps what each statement said last.
 //! - [`Rights`] and [`Letters`]: what a question asks for, and what a message gives or denies.
+//! - [`Held`]: what the full question answers: the rights, and how many memberships were examined on each side.
 //!
 //! The answers of the block are those of the archive, which is proved; this crate around it is tested.
 
 mod block;
+mod held;
 mod ledger;
 mod letters;
 mod message;
@@ -45,6 +47,7 @@ mod refusal;
 mod saved;
 
 pub use block::Block;
+pub use held::Held;
 pub use ledger::{Ledger, NotTaken, Said, Statement, Taken, Waiting, Why};
 pub use letters::{Letters, NotLetters, Rights};
 pub use message::{Half, Kind, Message, Name, NAMES};

@@ -1,4 +1,5 @@
-//! The C interface, as `include/anaqsiro.h` declares it. Each call returns the refusal's number times 2^32 plus a value.
+//! The C interface, as `include/anaqsiro.h` declares it. Each call returns the refusal's number times 2^32 plus a value. The
+//! value of `anaqsiro_rights` is not the rights alone: [`Held::from_answer`](crate::Held::from_answer) takes it apart.
 
 #[link(name = "anaqsiro", kind = "static")]
 extern "C" {

@@ -280,20 +280,36 @@ fn spans(memberships: &[Record]) -> [Span; NAMES] {
 const USER: u8 = ALL;
 const OBJECT: u8 = ALL << RIGHTS;
 
+/// Where the numbers of M records examined begin in the value of a full question: the user's, then the object's.
+const EXAMINED: [usize; 2] = [4, 18];
+
+/// What one M record adds to them, by the bits by which its key's mark grew: 1 for each side whose half grew.
+static ONCE: [u32; 1 << (2 * RIGHTS)] = {
+    let mut once = [0; 1 << (2 * RIGHTS)];
+    let mut grew = 0;
+    while grew < once.len() {
+        let [user, object] = [grew as u8 & USER != 0, grew as u8 & OBJECT != 0];
+        once[grew] = (user as u32) << EXAMINED[0] | (object as u32) << EXAMINED[1];
+        grew += 1;
+    }
+    once
+};
+
 /// How many numbers of records are put on a list at a time; those that are too many are written over.
 const FEW: usize = 4;
 
-/// The marks in a round and in the round before, and the names whose marks grew.
+/// The marks in a round and in the round before, the names whose marks grew, and the two numbers of M records examined so far.
 struct Walk {
     marks: [u8; NAMES],
     before: [u8; NAMES],
     grown: [u16; NAMES],
     names: usize,
+    examined: u32,
 }
 
 impl Walk {
     fn new(user: usize, object: usize) -> Walk {
-        let mut walk = Walk { marks: [0; NAMES], before: [0; NAMES], grown: [0; NAMES], names: 2 };
+        let mut walk = Walk { marks: [0; NAMES], before: [0; NAMES], grown: [0; NAMES], names: 2, examined: 0 };
         walk.marks[user] = USER;
         walk.marks[object] |= OBJECT;
         walk.grown[..2].copy_from_slice(&[user as u16, object as u16]);
@@ -301,13 +317,16 @@ impl Walk {
         walk
     }
 
-    /// Begins a round: lists the records of the names whose marks grew in the round before. How many there are.
-    fn begin(&mut self, spans: &[Span; NAMES], list: &mut [u16; ROOM + FEW]) -> usize {
+    /// Begins a round: lists the records of the names whose marks grew in the round before, and counts them if they are to be
+    /// counted. How many there are.
+    fn begin<const COUNTED: bool>(&mut self, spans: &[Span; NAMES], list: &mut [u16; ROOM + FEW]) -> usize {
         let mut listed = 0;
         for &name in &self.grown[..self.names] {
             let name = usize::from(name) % NAMES;
+            let grew = self.before[name] ^ self.marks[name];
             self.before[name] = self.marks[name];
             let (mut i, end) = spans[name];
+            self.examined += if COUNTED { ONCE[usize::from(grew)] * u32::from(end - i) } else { 0 };
             let (mut at, after) = (listed, listed + usize::from(end - i));
             listed = after;
             loop {
@@ -333,20 +352,18 @@ impl Walk {
             self.marks[id] |= more;
         }
     }
-}
 
-/// The marks of all names, as chains of at most `CHAIN` records bring them.
-fn walked(memberships: &[Record], spans: &[Span; NAMES], user: usize, object: usize) -> [u8; NAMES] {
-    let mut walk = Walk::new(user, object);
-    let mut list = [0; ROOM + FEW];
-    for _ in 0..CHAIN {
-        let listed = walk.begin(spans, &mut list);
-        if listed == 0 {
-            break;
+    /// Goes on for as many rounds as a chain may have records.
+    fn go<const COUNTED: bool>(&mut self, memberships: &[Record], spans: &[Span; NAMES]) {
+        let mut list = [0; ROOM + FEW];
+        for _ in 0..CHAIN {
+            let listed = self.begin::<COUNTED>(spans, &mut list);
+            if listed == 0 {
+                break;
+            }
+            self.look(memberships, &list[..listed]);
         }
-        walk.look(memberships, &list[..listed]);
     }
-    walk.marks
 }
 
 /// The rights that all filters leave which bind an object, given its own M records.
@@ -359,7 +376,8 @@ fn filter(filters: &[Record], object: usize, own: &[Record]) -> u8 {
     std::iter::once(object).chain(groups).flat_map(keyed).fold(ALL, |all, record| all & mask(record, COUNTS))
 }
 
-fn question(b: &[u8], user: u64, object: u64, request: u64) -> Result<u8, u32> {
+/// The rights held of those requested and, if they are to be counted, the numbers of M records examined.
+fn question<const COUNTED: bool>(b: &[u8], user: u64, object: u64, request: u64) -> Result<(u8, u32), u32> {
     let number = tested(b);
     if number != 0 {
         return Err(number);
@@ -374,7 +392,9 @@ fn question(b: &[u8], user: u64, object: u64, request: u64) -> Result<u8, u32> {
     let spans = spans(m);
     let (start, end) = spans[object];
     let limit = filter(f, object, &m[start.into()..end.into()]) & request as u8;
-    let mut marks = walked(m, &spans, user, object);
+    let mut walk = Walk::new(user, object);
+    walk.go::<COUNTED>(m, &spans);
+    let marks = &mut walk.marks;
     marks[0] |= OBJECT;
     let mut held = 0;
     for record in p {
@@ -386,15 +406,15 @@ fn question(b: &[u8], user: u64, object: u64, request: u64) -> Result<u8, u32> {
             }
         }
     }
-    Ok(held)
+    Ok((held, walk.examined))
 }
 
 pub fn rights(b: &[u8], user: u64, object: u64, request: u64) -> (u32, u32) {
-    question(b, user, object, request).map_or_else(|n| (n, 0), |held| (0, held.into()))
+    question::<true>(b, user, object, request).map_or_else(|n| (n, 0), |(held, examined)| (0, u32::from(held) | examined))
 }
 
 pub fn may(b: &[u8], user: u64, object: u64, request: u64) -> (u32, u32) {
-    question(b, user, object, request).map_or_else(|n| (n, 0), |held| (0, (u64::from(held) == request).into()))
+    question::<false>(b, user, object, request).map_or_else(|n| (n, 0), |(held, _)| (0, (u64::from(held) == request).into()))
 }
 
 fn set_bounds(b: &[u8], kind: u64, key: u64) -> Result<(usize, usize, usize), u32> {

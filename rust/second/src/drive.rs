@@ -2,8 +2,9 @@
 //! guard bytes around each buffer. A run keeps count of what it met, and says what it should have met and did not.
 
 use crate::gen::{self, Rng};
-use crate::sides::Sides;
-use crate::{binding, carries, denied, granted, letters, meets, set_of, word, Index};
+use crate::growth::Growth;
+use crate::sides::{rounds, Sides};
+use crate::{binding, carries, denied, granted, letters, meets, numbers, passes, set_of, word, Index};
 use crate::{ALL, CHAIN, COUNTS, HEADER, IDS, KINDS, LAST, LETTERS, M, NAMES, P, RECORD, RIGHTS};
 use std::collections::{BTreeMap, BTreeSet};
 use std::ops::Range;
@@ -86,6 +87,25 @@ const TO_MEET: &[(&str, &str, &[i64])] = &[
     ("rights", "held only over an M record of name 1023, for user or object", &[0, 1]),
     ("rights", "held only over the fifth M record of a name or one behind it, for user or object", &[0, 1]),
     ("rights", "held by a user who is the object", &[1, 2, 4, 8]),
+    ("rights", "examined for a user who is the object", &[1]),
+    ("rights", "fewer examined for the user than for the object, as many, or more", &[-1, 0, 1]),
+    ("rights", "times that an M record is examined for the user", &[0, 1, 2, 3, 4]),
+    ("rights", "times that an M record is examined for the object", &[0, 1, 2, 3, 4]),
+    ("rights", "times that M records of name 0 are examined for another object, three or four taken as two", &[0, 1, 2]),
+    ("rights", "none examined though there are M records, for user or object", &[0, 1]),
+    ("rights", "more examined than there are M records, for user or object", &[0, 1]),
+    ("rights", "1,000 or more examined, for user or object", &[0, 1]),
+    ("rights", "4,096 or more examined, for user or object", &[0, 1]),
+    ("rights", "examined in round 31, for user or object", &[0, 1]),
+    ("rights", "not examined, as a round 32 does not count, for user or object", &[0, 1]),
+    ("rights", "examined, and carrying no right on, for user or object", &[0, 1]),
+    ("rights", "examined once at the start, to which a chain leads back, for user or object", &[0, 1]),
+    ("rights", "examined before, and then for the other side alone, for user or object", &[0, 1]),
+    ("rights", "reached, with no M records to examine, for user or object", &[0, 1]),
+    ("rights", "examined though no right requested is held, for user or object", &[0, 1]),
+    ("rights", "examined though no right is in every filter, for user or object", &[0, 1]),
+    ("rights", "examined for rights alone that are not requested, for user or object", &[0, 1]),
+    ("rights", "examined for rights alone that are not in every filter, for user or object", &[0, 1]),
     ("may", "number", &[0, 1, 2, 4, 5]),
     ("may", "answer", &[0, 1]),
     ("write", "number", &[0, 1, 2, 3, 4, 10]),
@@ -246,6 +266,7 @@ impl Call<'_> {
         if let Some((user, object, request, value)) = self.asked(crate::rights, |lib, b, u, o, r| lib.rights(b, u, o, r))? {
             let index = index_of(self.block);
             letters(request).for_each(|right| self.saw_right(&index, user, object, right, value >> right & 1 == 1));
+            self.saw_numbers(&index, [user, object], request, value);
         }
         Ok(self.block.to_vec())
     }
@@ -296,7 +317,9 @@ impl Call<'_> {
         if sides.names[side].iter().any(|&name| name != sides.starts[side] && set_of(part, name).is_empty()) {
             self.saw("held, with a name reached that has no M records, for user or object", side as i64);
         }
-        let rounds = sides.rounds(side);
+        let rounds = rounds(part, sides.starts[side]);
+        let keys: BTreeSet<u16> = part.keys().map(|record| record.0).collect();
+        let beside: BTreeSet<u16> = keys.into_iter().filter(|&key| sides.comes_beside(&rounds, key)).collect();
         let ends = [part.first_key_value(), part.last_key_value()].map(|end| end.map(|(&record, _)| record));
         let nth = |record: (u16, u16)| part.range((record.0, 0)..record).count();
         let mut hinge = |what, forgotten: &dyn Fn((u16, u16)) -> bool| {
@@ -313,8 +336,69 @@ impl Call<'_> {
             sides.comes_again(&rounds, record.0)
         });
         hinge("held only over a name that two records gave rights in one round, for user or object", &|record| {
-            sides.comes_beside(&rounds, record.0)
+            beside.contains(&record.0)
         });
+    }
+
+    /// What the numbers of M records examined hung on.
+    fn saw_numbers(&mut self, index: &Index, names: [u16; 2], request: u8, value: u32) {
+        let (part, [user, object], numbers) = (&index.parts[M], names, numbers(value));
+        let sides = names.map(|start| Growth::new(part, start));
+        let order = numbers[0].cmp(&numbers[1]) as i64;
+        self.saw("fewer examined for the user than for the object, as many, or more", order);
+        if user == object && numbers[0] > 0 {
+            self.saw("examined for a user who is the object", 1);
+        }
+        if object != 0 && !set_of(part, 0).is_empty() {
+            let times = sides[1].times(0, ALL).min(2) as i64;
+            self.saw("times that M records of name 0 are examined for another object, three or four taken as two", times);
+        }
+        let passing = (0..RIGHTS).filter(|&right| passes(index, object, right)).map(|right| 1 << right).sum();
+        for side in 0..2 {
+            self.saw_number(&sides, side, part.len(), numbers[side]);
+            self.saw_unlimited(&sides[side], side, numbers[side], [u64::from(value) & ALL, request.into(), passing]);
+        }
+    }
+
+    /// What the number of one side hung on, of so many M records.
+    fn saw_number(&mut self, sides: &[Growth; 2], side: usize, records: usize, number: u32) {
+        let (own, other) = (&sides[side], &sides[1 - side]);
+        let times = ["times that an M record is examined for the user", "times that an M record is examined for the object"];
+        own.all_times().into_iter().for_each(|n| self.saw(times[side], n as i64));
+        self.saw_all(
+            side,
+            &[
+                ("none examined though there are M records, for user or object", number == 0 && records > 0),
+                ("more examined than there are M records, for user or object", number as usize > records),
+                ("1,000 or more examined, for user or object", number >= 1000),
+                ("4,096 or more examined, for user or object", number >= 4096),
+                ("examined in round 31, for user or object", own.in_round(CHAIN - 1)),
+                ("not examined, as a round 32 does not count, for user or object", own.in_round(CHAIN)),
+                ("examined, and carrying no right on, for user or object", own.idles()),
+                ("examined once at the start, to which a chain leads back, for user or object", own.returns()),
+                ("examined before, and then for the other side alone, for user or object", own.stays_behind(other)),
+                ("reached, with no M records to examine, for user or object", own.ends()),
+            ],
+        );
+    }
+
+    /// Where the number of one side is that of all rights, and the question is about fewer: those held of the rights requested,
+    /// those requested, and those in every filter.
+    fn saw_unlimited(&mut self, own: &Growth, side: usize, number: u32, [held, requested, passing]: [u64; 3]) {
+        self.saw_all(
+            side,
+            &[
+                ("examined though no right requested is held, for user or object", number > 0 && held == 0),
+                ("examined though no right is in every filter, for user or object", number > 0 && passing == 0),
+                ("examined for rights alone that are not requested, for user or object", own.number(requested) < number),
+                ("examined for rights alone that are not in every filter, for user or object", own.number(passing) < number),
+            ],
+        );
+    }
+
+    /// What is so on one side.
+    fn saw_all(&mut self, side: usize, all: &[(&'static str, bool)]) {
+        all.iter().filter(|(_, such)| *such).for_each(|(what, _)| self.saw(what, side as i64));
     }
 
     fn may(&mut self) -> Result<Vec<u8>, String> {

@@ -75,6 +75,9 @@ fn insert(rng: &mut Rng, index: &mut Index, pool: u64) {
 fn largest(rng: &mut Rng) -> Index {
     let mut index = Index::empty(GREATEST);
     let (pool, records) = (rng.pick(&[64, NAMES.into()]), ROOM - rng.pick(&[0, 0, 1, 2]));
+    if !rng.one_in(3) {
+        ring(rng, &mut index, 400);
+    }
     while index.records() < records {
         insert(rng, &mut index, pool);
     }
@@ -83,7 +86,7 @@ fn largest(rng: &mut Rng) -> Index {
 
 /// A good block. Names come from a small pool, so that chains, loops and shared records are common.
 pub fn index(rng: &mut Rng) -> Index {
-    if rng.one_in(200) {
+    if rng.one_in(120) {
         return largest(rng);
     }
     let pool = rng.pick(&[2, 4, 8, 24, 100, NAMES.into()]);
@@ -102,6 +105,10 @@ pub fn index(rng: &mut Rng) -> Index {
     }
     if rng.one_in(12) {
         fan(rng, &mut index);
+    }
+    if rng.one_in(12) {
+        let besides = rng.below(4);
+        ring(rng, &mut index, besides);
     }
     let spare = match rng.below(6) {
         0 | 1 => 0,
@@ -122,7 +129,7 @@ fn name(rng: &mut Rng, pool: u64) -> u16 {
     }
 }
 
-/// Where a long chain starts, and the name on the other side of its grant.
+/// Where a chain, a fan or a ring starts, and the name on the other side.
 const START: u16 = 100;
 const OTHER: u16 = 9;
 
@@ -130,7 +137,7 @@ const OTHER: u16 = 9;
 /// right comes to its names too, a round before the first: it leaves out a name.
 fn chain(rng: &mut Rng, index: &mut Index) {
     let longest = CHAIN as u16;
-    let end = START + rng.pick(&[longest - 1, longest, longest + 1, longest + 8]);
+    let end = START + rng.pick(&[longest - 1, longest, longest, longest + 1, longest + 1, longest + 8]);
     let [first, other] = two_rights(rng);
     let second = if rng.one_in(2) { other } else { 0 };
     let mask = |rng: &mut Rng| first | second | if rng.one_in(3) { rng.below(ALL + 1) } else { 0 };
@@ -146,7 +153,7 @@ fn chain(rng: &mut Rng, index: &mut Index) {
 
 /// A name that is a member of six groups, of which the last two lead, with a right each, to the group of a group with a grant.
 fn fan(rng: &mut Rng, index: &mut Index) {
-    let (group, last) = (START + 7, START + 8);
+    let (group, last) = (rng.pick(&[0, START + 7, NAMES - 1]), START + 8);
     let rights = two_rights(rng);
     for n in 1..7 {
         let counts = once(1 + rng.below(ALL));
@@ -158,6 +165,23 @@ fn fan(rng: &mut Rng, index: &mut Index) {
     }
     index.parts[M].insert((group, last), once(rights[0] | rights[1]));
     grant(rng, index, last);
+}
+
+/// Four names in a ring, each with so many M records besides. Two others lead to each of the four with one right, to each with
+/// another, and every right goes round the ring: the mark of each of the four grows in four rounds.
+fn ring(rng: &mut Rng, index: &mut Index, besides: u64) {
+    let (names, turn) = (RIGHTS as u16, rng.below(RIGHTS as u64) as u16);
+    for n in 0..names {
+        let (name, next) = (START + 1 + n, START + 1 + (n + 1) % names);
+        for _ in 0..besides {
+            let (id, counts) = (rng.below(NAMES.into()) as u16, counts(rng, M));
+            index.parts[M].insert((name, id), counts);
+        }
+        for start in [START, OTHER] {
+            index.parts[M].insert((start, name), once(1 << ((n + turn) % names)));
+        }
+        index.parts[M].insert((name, next), once(ALL));
+    }
 }
 
 /// The masks of two rights, not the same.
@@ -323,9 +347,14 @@ fn before(rng: &mut Rng, index: &Index, mut name: u16) -> u64 {
     name.into()
 }
 
-/// A user and an object: mostly such that a P record may grant something between them.
+/// A user and an object: mostly such that a P record may grant something between them. Where a chain, a fan or a ring starts,
+/// every other question is asked from there.
 pub fn question(rng: &mut Rng, index: &Index) -> (u64, u64) {
     let grants = &index.parts[P];
+    if index.parts[M].keys().any(|record| record.0 == START) && rng.one_in(2) {
+        let [start, other] = [START, OTHER].map(u64::from);
+        return rng.pick(&[(start, other), (other, start)]);
+    }
     let any = |rng: &mut Rng| if rng.one_in(6) { rng.pick(&[OTHER, START]).into() } else { number(rng, NAMES.into()) };
     if grants.is_empty() || rng.one_in(4) {
         return (any(rng), any(rng));

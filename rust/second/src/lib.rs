@@ -6,8 +6,12 @@ use std::collections::{BTreeMap, BTreeSet};
 use std::sync::LazyLock;
 
 pub mod drive;
+mod examined;
 pub mod gen;
+mod growth;
 mod sides;
+
+use examined::examined;
 
 /// The letters that a record counts, in their order: the rights, then the denial of each.
 pub const LETTERS: [u8; 8] = *b"MRUPmrup";
@@ -28,6 +32,10 @@ pub const COUNTS: usize = 4;
 /// How many records the longest block has room for, and its bytes.
 pub const ROOM: usize = 2048;
 pub const GREATEST: usize = HEADER + ROOM * RECORD;
+
+/// Where the numbers of M records examined begin in the value of a full question, the user's and the object's, and their bits.
+const EXAMINED: [u32; 2] = [4, 18];
+const EXAMINED_BITS: u32 = 14;
 
 /// The greatest number of a record that can be asked for by its number.
 pub const LAST: u64 = 65_535;
@@ -297,28 +305,43 @@ fn name_of(number: u64) -> Result<u16, u32> {
     (number < NAMES.into()).then_some(number as u16).ok_or(4)
 }
 
-fn question(block: &[u8], user: u64, object: u64, request: u64) -> Result<u8, u32> {
+/// The records that a question is about, its user and its object; or the number that refuses it.
+fn question(block: &[u8], user: u64, object: u64, request: u64) -> Result<(Index, [u16; 2]), u32> {
     let index = Index::decode(block)?;
-    let (user, object) = (name_of(user)?, name_of(object)?);
+    let names = [name_of(user)?, name_of(object)?];
     if request == 0 || request > ALL {
         return Err(5);
     }
-    let held = (0..RIGHTS).filter(|&right| holds(&index, user, object, right));
-    Ok(held.map(|right| 1 << right).sum::<u8>() & request as u8)
+    Ok((index, names))
 }
 
-/// The full question: the number, and the rights held of those requested.
+/// The rights that a user holds on an object, of those requested.
+fn held(index: &Index, [user, object]: [u16; 2], request: u64) -> u32 {
+    let held = (0..RIGHTS).filter(|&right| holds(index, user, object, right));
+    held.map(|right| 1 << right).sum::<u32>() & request as u32
+}
+
+/// The full question: the number, and the rights held of those requested, with the numbers of M records examined above them.
 pub fn rights(block: &[u8], user: u64, object: u64, request: u64) -> (u32, u32) {
     match question(block, user, object, request) {
-        Ok(mask) => (0, mask.into()),
+        Ok((index, names)) => {
+            let numbers = names.map(|start| examined(&index.parts[M], start));
+            let above: u32 = numbers.iter().zip(EXAMINED).map(|(number, at)| number << at).sum();
+            (0, held(&index, names, request) + above)
+        }
         Err(number) => (number, 0),
     }
+}
+
+/// The numbers of M records examined that the value of a full question tells: the user's, then the object's.
+fn numbers(value: u32) -> [u32; 2] {
+    EXAMINED.map(|at| value >> at & ((1 << EXAMINED_BITS) - 1))
 }
 
 /// The short question: the number, and 1 for yes or 0 for no.
 pub fn may(block: &[u8], user: u64, object: u64, request: u64) -> (u32, u32) {
     match question(block, user, object, request) {
-        Ok(mask) => (0, (u64::from(mask) == request).into()),
+        Ok((index, names)) => (0, (u64::from(held(&index, names, request)) == request).into()),
         Err(number) => (number, 0),
     }
 }

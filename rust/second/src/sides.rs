@@ -1,10 +1,27 @@
 //! The two sides of a question about one right, and what a walk may forget of them.
 
-use crate::{carries, joins, reached, Index, CHAIN, M, RIGHTS};
+use crate::{carries, joins, reached, Index, Part, CHAIN, M, RIGHTS};
 use std::collections::{BTreeMap, BTreeSet};
 
 /// The round in which a walk for a right first comes to each name.
 pub type Rounds = BTreeMap<u16, usize>;
+
+/// Those of a walk from a name for each right, up to round 32.
+pub fn rounds(memberships: &Part, start: u16) -> [Rounds; RIGHTS] {
+    std::array::from_fn(|right| {
+        let mut rounds = Rounds::from([(start, 0)]);
+        for round in 1..=CHAIN {
+            let comes = |record: &(u16, u16)| rounds.get(&record.0) == Some(&(round - 1)) && !rounds.contains_key(&record.1);
+            let links = memberships.iter().filter(|(_, counts)| carries(counts, right));
+            let next: Vec<_> = links.filter(|(record, _)| comes(record)).map(|(record, _)| (record.1, round)).collect();
+            if next.is_empty() {
+                break;
+            }
+            rounds.extend(next);
+        }
+        rounds
+    })
+}
 
 /// The two sides of a question about one right: the user's, then the object's.
 pub struct Sides<'a> {
@@ -37,23 +54,6 @@ impl Sides<'_> {
     pub fn joined(&self, side: usize, names: &BTreeSet<u16>) -> bool {
         let [users, objects] = if side == 0 { [names, &self.names[1]] } else { [&self.names[0], names] };
         joins(self.index, users, objects, self.right, carries)
-    }
-
-    /// The rounds of one side for each right.
-    pub fn rounds(&self, side: usize) -> [Rounds; RIGHTS] {
-        std::array::from_fn(|right| {
-            let mut rounds = Rounds::from([(self.starts[side], 0)]);
-            for round in 1..=CHAIN {
-                let comes = |record: &(u16, u16)| rounds.get(&record.0) == Some(&(round - 1)) && !rounds.contains_key(&record.1);
-                let links = self.index.parts[M].iter().filter(|(_, counts)| carries(counts, right));
-                let next: Vec<_> = links.filter(|(record, _)| comes(record)).map(|(record, _)| (record.1, round)).collect();
-                if next.is_empty() {
-                    break;
-                }
-                rounds.extend(next);
-            }
-            rounds
-        })
     }
 
     /// Whether another right comes to the name in an earlier round than this one.

@@ -1,6 +1,8 @@
 //! Every example of the rules.
 
 use super::*;
+use crate::gen::Rng;
+use crate::growth::Growth;
 
 /// A block with room for `room` records, and records given as part, key, id and mask, each letter counted once.
 fn block(room: usize, records: &[(usize, u16, u16, u8)]) -> Vec<u8> {
@@ -26,6 +28,11 @@ fn permission(previous: Option<(u16, u16, u8)>, new: Option<(u16, u16, u8)>) -> 
 /// An empty block with room for so many records.
 fn empty(room: usize) -> Vec<u8> {
     make(&vec![7; HEADER + RECORD * room]).1
+}
+
+/// What an accepted full question gives: the rights held, and the M records examined for the user and for the object.
+fn answer(held: u32, user: u32, object: u32) -> (u32, u32) {
+    (0, held + 16 * user + 262_144 * object)
 }
 
 #[test]
@@ -94,25 +101,76 @@ fn texts_of_no_set() {
 #[test]
 fn chains() {
     let b = block(4, &[(M, 1, 2, 2), (M, 1, 3, 15), (M, 3, 2, 15), (P, 9, 2, 15)]);
-    assert_eq!(rights(&b, 1, 9, ALL), (0, 15));
+    assert_eq!(rights(&b, 1, 9, ALL), answer(15, 3, 0));
     let b = block(3, &[(M, 1, 2, 2), (M, 2, 3, 4), (P, 9, 3, 15)]);
-    assert_eq!(rights(&b, 1, 9, ALL), (0, 0));
+    assert_eq!(rights(&b, 1, 9, ALL), answer(0, 2, 0));
     let b = block(2, &[(M, 1, 1, 15), (P, 0, 1, 2)]);
-    for object in [0, 1, 9, u64::from(NAMES) - 1] {
-        assert_eq!(rights(&b, 1, object, ALL), (0, 2));
+    for (object, examined) in [(0, 0), (1, 1), (9, 0), (u64::from(NAMES) - 1, 0)] {
+        assert_eq!(rights(&b, 1, object, ALL), answer(2, 1, examined));
     }
 }
 
 #[test]
 fn long_chains() {
     assert_eq!(CHAIN, 32);
-    for (length, held) in [(31, 2), (32, 2), (33, 0), (40, 0)] {
+    for (length, held, examined) in [(31, 2, 31), (32, 2, 32), (33, 0, 32), (40, 0, 32)] {
         let mut records: Vec<_> = (100..100 + length).map(|n| (M, n, n + 1, 2)).collect();
         records.push((P, 9, 100 + length, 2));
-        assert_eq!(rights(&block(64, &records), 100, 9, ALL), (0, held));
+        assert_eq!(rights(&block(64, &records), 100, 9, ALL), answer(held, examined, 0));
         let last = records.len() - 1;
         records[last] = (P, 100 + length, 9, 2);
-        assert_eq!(rights(&block(64, &records), 9, 100, ALL), (0, held));
+        assert_eq!(rights(&block(64, &records), 9, 100, ALL), answer(held, 0, examined));
+        assert_eq!(rights(&block(64, &records), 100 + u64::from(length) - 31, 9, ALL), answer(0, 31, 0));
+    }
+}
+
+#[test]
+fn one_record_examined() {
+    let b = block(1, &[(M, 1, 2, 2)]);
+    assert_eq!((rights(&b, 1, 2, ALL), rights(&b, 2, 1, ALL)), (answer(0, 1, 0), answer(0, 0, 1)));
+    let b = block(1, &[(M, 1, 1, 15)]);
+    assert_eq!((rights(&b, 1, 9, ALL), rights(&b, 1, 1, ALL)), (answer(0, 1, 0), answer(0, 1, 1)));
+    assert_eq!((may(&b, 1, 1, 1), rights(&b, 1024, 1, ALL), rights(&b, 1, 1, 0)), ((0, 0), (4, 0), (5, 0)));
+}
+
+/// The four names of the ring get a right in each of four rounds, and the start has all at once.
+#[test]
+fn records_examined_four_times() {
+    let start = [(M, 1, 2, 1), (M, 1, 3, 2), (M, 1, 4, 4), (M, 1, 5, 8)];
+    let ring = [(M, 2, 3, 15), (M, 3, 4, 15), (M, 4, 5, 15), (M, 5, 2, 15)];
+    let b = block(8, &[start, ring].concat());
+    assert_eq!((rights(&b, 1, 2, ALL), rights(&b, 9, 1, ALL)), (answer(0, 20, 4), answer(0, 0, 20)));
+}
+
+#[test]
+fn request_and_filters_have_no_part() {
+    let records = [(M, 1, 2, 1), (M, 2, 3, 15), (M, 9, 4, 2), (M, 9, 2, 4), (P, 9, 1, 15), (F, 9, 20, 1), (F, 4, 20, 8)];
+    for request in 1..=ALL {
+        assert_eq!(rights(&block(8, &records), 1, 9, request), answer(0, 2, 3));
+        assert_eq!(rights(&block(8, &records[..5]), 1, 9, request), answer(request as u32, 2, 3));
+    }
+}
+
+/// That name 0 counts in full for every object is no mark of the walk.
+#[test]
+fn name_0_is_examined_where_a_chain_reaches_it() {
+    let records = [(M, 0, 5, 15), (P, 0, 1, 2), (M, 9, 0, 1)];
+    assert_eq!(rights(&block(3, &records[..2]), 1, 9, ALL), answer(2, 0, 0));
+    assert_eq!(rights(&block(3, &records), 1, 9, ALL), answer(2, 0, 2));
+    assert_eq!(rights(&block(3, &records), 0, 0, ALL), answer(0, 1, 1));
+}
+
+/// A mark differs from the round before where a right first comes to its name, so a record is examined four times at most.
+#[test]
+fn numbers_by_first_rounds() {
+    for seed in 0..2000 {
+        let memberships = &gen::index(&mut Rng(seed)).parts[M];
+        let starts = memberships.keys().flat_map(|&(key, id)| [key, id]).chain([100, 9]);
+        for start in starts.take(8) {
+            let number = examined(memberships, start);
+            assert_eq!(number, Growth::new(memberships, start).number(ALL), "seed {seed}, start {start}");
+            assert!(number as usize <= 4 * memberships.len());
+        }
     }
 }
 
@@ -129,11 +187,11 @@ fn filters() {
 fn filters_of_groups() {
     let grant = (P, 9, 1, 15);
     let groups = [(M, 9, 3, 1), (M, 9, 12, 8), (F, 3, 20, 14), (F, 9, 20, 7), (F, 12, 20, 11)];
-    assert_eq!(rights(&block(6, &[&groups[..], &[grant]].concat()), 1, 9, ALL), (0, 2));
+    assert_eq!(rights(&block(6, &[&groups[..], &[grant]].concat()), 1, 9, ALL), answer(2, 0, 2));
     let others = [(M, 9, 3, 15), (M, 3, 4, 15), (M, 1, 5, 15), (F, 4, 20, 1), (F, 1, 20, 1), (F, 5, 20, 1), (F, 0, 20, 1)];
-    assert_eq!(rights(&block(8, &[&others[..], &[grant]].concat()), 1, 9, ALL), (0, 15));
+    assert_eq!(rights(&block(8, &[&others[..], &[grant]].concat()), 1, 9, ALL), answer(15, 1, 2));
     let zero = [(M, 9, 0, 8), (F, 0, 20, 1), (F, 0, 21, 3)];
-    assert_eq!(rights(&block(4, &[&zero[..], &[grant]].concat()), 1, 9, ALL), (0, 1));
+    assert_eq!(rights(&block(4, &[&zero[..], &[grant]].concat()), 1, 9, ALL), answer(1, 0, 1));
     let apart = [(F, 9, 20, 1), (F, 9, 21, 2)];
     assert_eq!(rights(&block(3, &[&apart[..], &[grant]].concat()), 1, 9, ALL), (0, 0));
 }

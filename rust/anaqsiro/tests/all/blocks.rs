@@ -1,6 +1,6 @@
 //! The block: its calls, its records, its room.
 
-use anaqsiro::{Block, Half, Kind, Letters, Message, Record, Refusal, Rights};
+use anaqsiro::{Block, Half, Kind, Letters, Message, Name, Record, Refusal, Rights};
 use second::gen::{self, Rng};
 use second::Index;
 use std::thread;
@@ -8,6 +8,11 @@ use std::thread;
 /// A block with room for so many records.
 pub fn with_room(room: usize) -> Block {
     Block::with_room(room).expect("room")
+}
+
+/// The rights that a user holds on 9.
+fn held(block: &Block, user: Name) -> Rights {
+    block.rights(user, 9, Rights::ALL).expect("a good block").rights
 }
 
 #[test]
@@ -50,7 +55,7 @@ fn a_statement_gives_its_rights_less_its_denials() {
         let letters = Letters::from_mask(mask.into()).expect("below 256");
         let mut block = with_room(1);
         block.apply(Message::new(Kind::Permission, None, Some(Half::new(9, 1, letters)))).expect("room");
-        let net = block.rights(1, 9, Rights::ALL).expect("a good block");
+        let net = held(&block, 1);
         assert_eq!(net, letters.rights().without(letters.denied()), "{letters}");
         assert_eq!(net.mask(), ((mask >> 4) ^ 15) & mask, "{letters}");
     }
@@ -63,8 +68,7 @@ fn denials_stay_in_their_record() {
     block.apply(Message::new(Kind::Permission, None, half(1, Rights::ALL | Letters::NO_CREATE))).expect("room");
     block.apply(Message::new(Kind::Permission, None, half(2, Letters::CREATE))).expect("room");
     block.apply(Message::new(Kind::Membership, None, Some(Half::new(1, 2, Rights::ALL)))).expect("room");
-    assert_eq!(block.rights(1, 9, Rights::ALL), Ok(Rights::ALL));
-    assert_eq!(block.rights(2, 9, Rights::ALL), Ok(Rights::CREATE));
+    assert_eq!((held(&block, 1), held(&block, 2)), (Rights::ALL, Rights::CREATE));
     assert_eq!(block.rights(2, 9, Rights::NONE), Err(Refusal::Mask));
 }
 
@@ -82,7 +86,7 @@ fn every_filter_binds() {
             block.apply(Message::new(Kind::Filter, None, Some(Half::new(key, id, letters)))).expect("room");
             left &= letters.mask();
         }
-        assert_eq!(block.rights(1, 9, Rights::ALL).map(|rights| rights.mask()), Ok(left), "{filters:?}");
+        assert_eq!(held(&block, 1).mask(), left, "{filters:?}");
     }
 }
 
@@ -140,7 +144,7 @@ fn records_of(index: &Index) -> Vec<Record> {
 #[test]
 fn records_are_those_of_the_block() {
     let (mut met, mut most) = ([0; 3], 0);
-    for seed in 0..400 {
+    for seed in 0..1_000 {
         let index = gen::index(&mut Rng(seed));
         let block = Block::from_bytes(index.encode());
         let (records, wanted) = (block.records().expect("good"), records_of(&index));
@@ -236,14 +240,14 @@ fn threads_share_nothing() {
             let kind = [Kind::Membership, Kind::Permission][n as usize % 2];
             let _ = block.apply(Message::new(kind, previous, new));
         }
-        let rights: Vec<_> = (0..81).map(|n| block.rights(n / 9, n % 9, Rights::ALL)).collect();
-        (block, rights)
+        let answers: Vec<_> = (0..81).map(|n| block.rights(n / 9, n % 9, Rights::ALL)).collect();
+        (block, answers)
     };
     let alone: Vec<_> = (0..4).map(history).collect();
     let together: Vec<_> = thread::scope(|scope| {
         let threads: Vec<_> = (0..4).map(|first| scope.spawn(move || history(first))).collect();
         threads.into_iter().map(|thread| thread.join().expect("no panic")).collect()
     });
-    assert!(alone.iter().all(|(_, rights)| rights.iter().any(|held| held.is_ok_and(|held| !held.is_empty()))));
+    assert!(alone.iter().all(|(_, answers)| answers.iter().any(|held| held.is_ok_and(|held| !held.rights.is_empty()))));
     assert_eq!(alone, together);
 }

@@ -1,6 +1,6 @@
 //! The safe calls, held against the second program as the archive is.
 
-use anaqsiro::{raw, Block, Kind, Record, Refusal, Rights};
+use anaqsiro::{raw, Block, Held, Kind, Record, Refusal, Rights};
 use second::drive::{self, run, Library};
 
 /// The safe calls where the comparison wants a library. What they have no words for goes to the archive itself: a kind that is
@@ -14,6 +14,11 @@ fn packed(answer: Result<usize, Refusal>) -> u64 {
         Err(refusal @ Refusal::Text { place }) => drive::packed(refusal.number(), place as u32),
         Err(refusal) => drive::packed(refusal.number(), 0),
     }
+}
+
+/// The value of a full answer put together again.
+fn value_of(held: Held) -> usize {
+    usize::from(held.rights.mask()) + 16 * held.user_examined as usize + 262_144 * held.object_examined as usize
 }
 
 /// What a call on a block of these bytes gives; the bytes are then the block's.
@@ -41,7 +46,7 @@ impl Library for Safe {
     fn rights(&self, block: &[u8], user: u64, object: u64, request: u64) -> u64 {
         let safe = Block::from_bytes(block.to_vec());
         match Rights::from_mask(request) {
-            Some(request) => packed(safe.rights(user, object, request).map(|held| held.mask().into())),
+            Some(request) => packed(safe.rights(user, object, request).map(value_of)),
             None => unsafe { raw::anaqsiro_rights(block.as_ptr(), block.len(), user, object, request) },
         }
     }

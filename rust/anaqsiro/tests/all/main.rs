@@ -3,6 +3,7 @@
 mod blocks;
 mod build;
 mod compared;
+mod examined;
 mod ledgers;
 mod letters;
 mod messages;
