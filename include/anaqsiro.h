@@ -6,7 +6,7 @@
  * call leaves every lent byte as it was. Its value is 0, but for one: a text that anaqsiro_read refuses with 9 comes back with
  * its place.
  *
- * - THE VALUE OF anaqsiro_rights IS NOT THE RIGHTS. Until 0.3 it was. Since 0.4 it has two more numbers in it, and can be above
+ * - THE VALUE OF anaqsiro_rights IS NOT THE RIGHTS. Up to 0.3 it was. Since 0.4 it has two more numbers in it, and can be above
  *   0 where no right is held: if (anaqsiro_value(anaqsiro_rights(..))) would take that for a yes. Take the rights by
  *   anaqsiro_held.
  * - anaqsiro_read CHANGES THE BLOCK, anaqsiro_write DOES NOT. The first reads a text into the block: the records that it had

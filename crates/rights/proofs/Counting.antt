@@ -49,7 +49,7 @@ module _ {P : ℕ → Type 0} (y : ℕ) (new : P y → ⊥) where
       ⊎-elim (λ e. one (inr e) (below (omega arith) h)) (λ s. other (λ w. ⊎-elim f (λ e. omega arith) w) (count-one s h))
       (eq-or-lt-of-le {n = y} {m = m} (omega arith))
 
--- The d numbers from f on, of none of which P did.
+-- The d numbers from f on too, of none of which P held.
 module _ {P : ℕ → Type 0} (f : ℕ) where
   pub count-span : {m n : ℕ} (d : ℕ) → f + d ≤ m → ((i : ℕ) → f ≤ i → i < f + d → P i → ⊥) → HowMany P m n
       → HowMany (λ i. P i ⊎ ((f ≤ i) × (i < f + d))) m (n + d)

@@ -1,5 +1,5 @@
 -- M-109: the number of records that a walk examines is one number; the marks of round 0; and marks never lose a right.
-use Prim.Native.Nat.{ℕ, suc, _+_}
+use Prim.Native.Nat.{ℕ, suc}
 use mathlib.Core.Path.{_≡_, refl, sym, subst}
 use mathlib.Core.List.{List}
 use mathlib.Core.Logic.{_↔_}

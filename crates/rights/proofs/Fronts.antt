@@ -39,7 +39,7 @@ module _ (names : List ℕ) (n y : ℕ) where
   once-set : Once names n → Once (set names n y) n
   once-set once j l a = once j l (among-set j (getD names j 0) (omega arith) .0 (rw (at-set j l) at a))
 
--- Names that stand once are as many as they are.
+-- Of all names, those on a list of n names on which each stands once are n.
 pub once-many : (names : List ℕ) (n : ℕ) → Once names n → ((j : ℕ) → j < n → IsName (getD names j 0)) → HowMany (Among names n) nameCount n
 once-many names ℕ.zero once each = count-none (Among names 0) nameCount (λ z l a. omega (arith, a .1))
 once-many names (suc n) once each =

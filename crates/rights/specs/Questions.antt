@@ -1,4 +1,4 @@
--- 01, "The rights": the two questions, and the numbers they give.
+-- 01, "The rights": the two questions, and the numbers they give; M-109 for the records examined.
 use Prim.Native.Nat.{ℕ, _<_, _≤_}
 use mathlib.Core.Path.{_≡_}
 use mathlib.Core.List.{List, [], _∷_, _++_}
@@ -30,11 +30,11 @@ abbrev pub Reports : List ℕ → ℕ → ℕ → ℕ → (ℕ × ℕ × ℕ × 
 Reports b u o request a =
     (a .0 ≡ 0) × Limited b u o request (a .1) × Examined b u roundCount (a .2) × Examined b o roundCount (a .3)
 
--- A refused one: no right, and "A refused call reports 0."
+-- A refused one: no right, and, M-109: "A refused call reports 0."
 abbrev pub unreported : ℕ → ℕ × ℕ × ℕ × ℕ
 unreported n = (n, 0, 0, 0)
 
--- The full question.
+-- The full question: the number, the rights, and the numbers of records examined on the user's side and on the object's.
 unfoldable pub Full : List ℕ → ℕ → ℕ → ℕ → (ℕ × ℕ × ℕ × ℕ) → Type 0
 Full b u o request a = First unreported (questionNeeds b u o request) (Reports b u o request) a
 

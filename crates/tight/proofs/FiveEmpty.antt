@@ -1,13 +1,13 @@
 -- 01, "Five empty programs have to be turned away": no program that meets the promises is one of them.
-use Prim.Native.Nat.{ℕ, _<_, _≤_}
+use Prim.Native.Nat.{ℕ, _≤_}
 use mathlib.Core.Path.{_≡_, refl, sym, ap, subst, _∙_}
 use mathlib.Core.List.{List, [], _∷_}
 use native.Mathlib.Omega.{arith}
 use lib.ListN.{length, getD}
 use Rattle.index.specs.declared.Kind.{Kind}
 use Rattle.index.specs.declared.Kind.the-variants.{Permission}
-use Rattle.index.specs.Letters.{letterCount, lettersOf}
-use Rattle.index.specs.Block.{number, Sized, countAt, records, count}
+use Rattle.index.specs.Letters.{lettersOf}
+use Rattle.index.specs.Block.{number, Sized, countAt, count}
 use Rattle.index.specs.Message.{IsKind, kindOf, kindNumber, flags, halfAt, previous, new, moves}
 use Rattle.index.specs.Calls.{Makes}
 use Rattle.index.specs.History.{left, others, after, movesOf, tally}

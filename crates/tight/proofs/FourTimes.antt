@@ -1,12 +1,12 @@
--- M-109: "each number at most four times the M records". No smaller number would do: on one block it is more than three times.
+-- M-109: "each number at most four times the M records". No smaller whole number of times would do: on one block it is more than three.
 use Prim.Native.Nat.{ℕ, _*_, _≤_}
 use mathlib.Core.List.{List}
 use native.Mathlib.Omega.{arith}
 use Rattle.index.specs.declared.Kind.the-variants.{Membership}
 use Rattle.index.specs.Block.{number, size}
 use Rattle.rights.specs.Examined.{Examined, roundCount}
+use Rattle.rights.proofs.OneAnswer.{accepted-full}
 use Rattle.tight.specs.Examples.{crowd}
-use Rattle.tight.proofs.Programs.{accepted-full}
 use Rattle.tight.proofs.Starred.{examined-right}
 
 pub not-three-times : ((b : List ℕ) (s t : ℕ) → Examined b s roundCount t → t ≤ 3 * size b Membership) → ⊥

@@ -21,7 +21,8 @@ use Rattle.rights.specs.Held.{Holds}
 use Rattle.rights.specs.Questions.{questionNeeds, Limited, HoldsAll, Full, Short}
 use Rattle.tight.specs.Blocks.{nothing, reads, give, withdraw}
 use Rattle.tight.specs.Programs.{Program, Meets, run}
-use Rattle.tight.proofs.Programs.{accepted-full, runs, answers}
+use Rattle.rights.proofs.OneAnswer.{accepted-full}
+use Rattle.tight.proofs.Programs.{runs, answers}
 use Rattle.tight.proofs.Starred.{appointments-right}
 use Rattle.tight.proofs.Demand3.{first-half, second-half}
 

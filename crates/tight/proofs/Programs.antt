@@ -1,27 +1,17 @@
 -- What a program that meets its promises does: it gives the one outcome that each promise allows.
-use Prim.Native.Nat.{ℕ, _<_}
-use mathlib.Core.Path.{_≡_, refl, sym, _∙_, ap, subst}
+use Prim.Native.Nat.{ℕ}
+use mathlib.Core.Path.{_≡_, refl, _∙_, ap, subst}
 use mathlib.Core.List.{List, [], _∷_, map}
-use native.Mathlib.Omega.{arith}
-use Rattle.index.specs.Calls.{Makes, Message, WritesSet, ReadsSet, blockNeeds}
+use Rattle.index.specs.Calls.{Makes, Message, WritesSet, ReadsSet}
 use Rattle.index.specs.History.{Accepted, Labelled, Statement, History}
 use Rattle.index.specs.History.Sent.{plain}
 use Rattle.index.specs.History.Accepted.{nothing, next}
-use Rattle.index.proofs.Firsts.{All, first-passed}
 use Rattle.index.proofs.OneCall.{one-make, one-write, one-read}
 use Rattle.index.proofs.OneMessage.{one-message}
 use Rattle.index.proofs.Unchanged.{message-unchanged}
-use Rattle.rights.specs.Questions.{questionNeeds, Reports, unreported, Full, Short}
+use Rattle.rights.specs.Questions.{Full, Short}
 use Rattle.rights.proofs.OneAnswer.{one-full, one-short}
 use Rattle.tight.specs.Programs.{Program, Meets, run, Handed}
-
--- What an accepted answer says: its requirements hold, its mask is of the rights held, and its numbers are of the records examined.
-pub accepted-full : (b : List ℕ) (u o request mask i j : ℕ) → Full b u o request (0, mask, i, j)
-    → All (questionNeeds b u o request) × Reports b u o request (0, mask, i, j)
-unfolding Full questionNeeds blockNeeds
-accepted-full b u o request mask i j h =
-    first-passed unreported (Reports b u o request) (0, mask, i, j) (λ a. a .0) (λ n. refl)
-    (questionNeeds b u o request) (omega arith) refl h
 
 module _ (p : Program) (meets : Meets p) where
   -- ---- each call

@@ -17,7 +17,7 @@ pub data Case : Type 0 where
   -- on the block, the user holds these rights on the object, and so many M records are examined on the user's side and on the
   -- object's
   rights : (block : List ℕ) (user object mask of-user of-object : ℕ) → Case
-  -- on the block, the user holds these rights on every object
+  -- on the block, the user holds these rights on every object, whatever the numbers of records examined
   everywhere : (block : List ℕ) (user mask : ℕ) → Case
   -- the set of the kind and key in the block has n records and is written so, and the text is read back
   text : (block : List ℕ) (kind key : ℕ) (text : List ℕ) (n : ℕ) → Case
@@ -118,15 +118,15 @@ chains =
     (block (once 9 3 1 ∷ once 9 12 8 ∷ []) (once 9 1 15 ∷ []) (once 3 20 14 ∷ once 9 20 7 ∷ once 12 20 11 ∷ []) 0)
     1 9 2 0 2 ∷ []
 
--- M-109: 1 is in four groups, with a right each, and these stand in a ring, each a member of the next with all rights. In each round
--- a right more comes to each of the four.
+-- M-109: 1 is in four groups, with a right each, and these stand in a ring, each a member of the next with all rights. In each of the
+-- rounds 1 to 4 a right more comes to each of the four.
 abbrev pub ring : List ℕ
 ring =
     block
     (once 1 2 1 ∷ once 1 3 2 ∷ once 1 4 4 ∷ once 1 5 8 ∷ once 2 3 15 ∷ once 3 4 15 ∷ once 4 5 15 ∷ once 5 2 15 ∷ [])
     [] (once 9 20 1 ∷ []) 0
 
--- The same ring with five memberships of 2 more.
+-- The same records without the filter, and 2 is in five groups more.
 abbrev pub crowd : List ℕ
 crowd =
     block
@@ -150,13 +150,13 @@ abbrev pub examined : List Case
 examined =
     -- M-109: "the M records whose key's mark differs from the round before": those of 1 in round 0, and each of the ring's four in
     -- rounds 1 to 4, so 4 and four times 4; for the start 2 its own in round 0, and then one after the other, so 4. "Request, filter
-    -- and markers have no part in it": no right is held, and one filter of the object lets one right through.
+    -- and markers have no part in it": no right is held in the three rows, and in the first the object's filter lets one right through.
     Case.rights ring 1 9 0 20 0
     ∷ Case.rights ring 9 1 0 0 20
     ∷ Case.rights ring 2 4 0 4 4
     -- Of 13 records, 4 once and 9 four times: more than three times 13.
     ∷ Case.rights crowd 1 11 0 40 0
-    -- A member of itself is examined once, and what nobody is in, not at all.
+    -- The record of a member of itself is examined once; that of a name to which no chain from the start leads, not at all.
     ∷ Case.rights (block (once 1 1 2 ∷ once 3 1 15 ∷ []) [] [] 0) 1 2 0 1 0
     -- 0 stands in full for every object, but that is no mark: its own records are examined only where a chain leads to it.
     ∷ Case.rights (block (once 0 5 15 ∷ once 8 0 2 ∷ []) (once 0 1 15 ∷ []) [] 0) 1 9 15 0 0
