@@ -11,9 +11,12 @@ use Rattle.index.proofs.OneCall.{one-make, one-write, one-read}
 use Rattle.index.proofs.OneDoor.{one-tested}
 use Rattle.index.proofs.OneFirst.{one-first}
 use Rattle.index.proofs.OneMessage.{one-message}
-use Rattle.rights.specs.Questions.{Full, Short}
+use Rattle.directory.specs.By.{MakesDirectory, MessageBy, ReadBy, WriteBy}
+use Rattle.directory.proofs.OneBy.{one-made, one-message-by, one-read-by, one-write-by}
+use Rattle.rights.specs.Questions.{Full, Short, FullBy, ShortBy}
 use Rattle.rights.proofs.OneAnswer.{one-full, one-short}
-use Rattle.anaqsiro.specs.Returned.{Packed, Returned, Parts, MakeReturns, MessageReturns, RightsReturns, MayReturns, WriteReturns, ReadReturns, TestedReturns, SizeReturns, RecordReturns, CountReturns}
+use Rattle.rights.proofs.SameAnswers.{one-full-by, one-short-by}
+use Rattle.anaqsiro.specs.Returned.{Packed, Returned, Parts, InParts, MakeReturns, MessageReturns, RightsReturns, MayReturns, WriteReturns, ReadReturns, DirectoryReturns, MessageByReturns, RightsByReturns, MayByReturns, WriteByReturns, ReadByReturns, TestedReturns, SizeReturns, RecordReturns, CountReturns}
 
 -- The number is the upper half of what is returned, and the value the lower.
 pub halves : {n v r : ℕ} → Packed n v r → (n ≡ r / 4294967296) × (v ≡ r % 4294967296)
@@ -75,13 +78,12 @@ pub apart : {rights user object v : ℕ} → Parts rights user object v
     → (rights ≡ v % 16) × (user ≡ v / 16 % 16384) × (object ≡ v / 262144)
 apart p = (omega arith, omega arith, omega arith)
 
-module _ (b : List ℕ) (u o request : ℕ) where
-  pub one-rights-return : (r r₂ : ℕ) → RightsReturns b u o request r → RightsReturns b u o request r₂ → r ≡ r₂
-  unfolding RightsReturns
-  one-rights-return =
-      one-answer (λ a. (m : ℕ) × (i : ℕ) × (j : ℕ) × Parts m i j (a .1) × Full b u o request (a .0, m, i, j))
+module _ (Outcome : ℕ × ℕ × ℕ × ℕ → Type 0) (one : One Outcome) where
+  one-in-parts : (r r₂ : ℕ) → Returned (InParts Outcome) r → Returned (InParts Outcome) r₂ → r ≡ r₂
+  one-in-parts =
+      one-answer (λ a. InParts Outcome (a .0) (a .1))
       (λ a c p q.
-      let e = one-full b u o request (a .0, p .0, p .1, p .2) (c .0, q .0, q .1, q .2) (p .4) (q .4) in
+      let e = one (a .0, p .0, p .1, p .2) (c .0, q .0, q .1, q .2) (p .4) (q .4) in
       let n : a .0 ≡ c .0 = ap (λ (t : ℕ × ℕ × ℕ × ℕ). t .0) e in
       let m : p .0 ≡ q .0 = ap (λ (t : ℕ × ℕ × ℕ × ℕ). t .1) e in
       let i : p .1 ≡ q .1 = ap (λ (t : ℕ × ℕ × ℕ × ℕ). t .2) e in
@@ -89,9 +91,60 @@ module _ (b : List ℕ) (u o request : ℕ) where
       let v : a .1 ≡ c .1 = omega (arith, p .3 .is, q .3 .is, m, i, j) in
       λ k. (n k, v k))
 
+module _ (b : List ℕ) (u o request : ℕ) where
+  pub one-rights-return : (r r₂ : ℕ) → RightsReturns b u o request r → RightsReturns b u o request r₂ → r ≡ r₂
+  unfolding RightsReturns
+  one-rights-return =
+      one-in-parts (Full b u o request) (one-full b u o request)
+
   pub one-may-return : (r r₂ : ℕ) → MayReturns b u o request r → MayReturns b u o request r₂ → r ≡ r₂
   unfolding MayReturns
   one-may-return = one-answer (Short b u o request) (one-short b u o request)
+
+-- ---- M-106: by a directory
+
+pub one-directory-return : (b d : List ℕ) (r r₂ : ℕ) (d′ d₂′ : List ℕ) → DirectoryReturns b d r d′ → DirectoryReturns b d r₂ d₂′
+    → (r ≡ r₂) × (d′ ≡ d₂′)
+unfolding DirectoryReturns
+one-directory-return b d = one-return _ (one-number (MakesDirectory b d) (one-made b d))
+
+-- Those that leave a block and a directory.
+module _ (Outcome : ℕ × ℕ × List ℕ × List ℕ → Type 0) (one : One Outcome) where
+  one-both : (r r₂ : ℕ) (b₁ b₂ d₁ d₂ : List ℕ) → Returned (λ n v. Outcome (n, v, b₁, d₁)) r → Returned (λ n v. Outcome (n, v, b₂, d₂)) r₂
+      → (r ≡ r₂) × (b₁ ≡ b₂) × (d₁ ≡ d₂)
+  one-both r r₂ b₁ b₂ d₁ d₂ p q =
+      let e =
+      one-return {S = List ℕ × List ℕ} (λ o. Outcome (o .0, o .1, o .2 .0, o .2 .1))
+      (λ a c s t.
+      let e = one (a .0, a .1, a .2 .0, a .2 .1) (c .0, c .1, c .2 .0, c .2 .1) s t in
+      λ i. (e i .0, e i .1, (e i .2, e i .3))) r r₂ (b₁, d₁) (b₂, d₂) p q in
+      (e .0, ap (λ (s : List ℕ × List ℕ). s .0) (e .1), ap (λ (s : List ℕ × List ℕ). s .1) (e .1))
+
+module _ (b d : List ℕ) where
+  pub one-message-by-return : (m : List ℕ) (r r₂ : ℕ) (b₁ b₂ d₁ d₂ : List ℕ) → MessageByReturns b d m r b₁ d₁
+      → MessageByReturns b d m r₂ b₂ d₂ → (r ≡ r₂) × (b₁ ≡ b₂) × (d₁ ≡ d₂)
+  unfolding MessageByReturns
+  one-message-by-return m = one-both (MessageBy b d m) (one-message-by b d m)
+
+  module _ (u o request : ℕ) where
+    pub one-rights-by-return : (r r₂ : ℕ) → RightsByReturns b d u o request r → RightsByReturns b d u o request r₂ → r ≡ r₂
+    unfolding RightsByReturns
+    one-rights-by-return = one-in-parts (FullBy b d u o request) (one-full-by b u o request d)
+
+    pub one-may-by-return : (r r₂ : ℕ) → MayByReturns b d u o request r → MayByReturns b d u o request r₂ → r ≡ r₂
+    unfolding MayByReturns
+    one-may-by-return = one-answer (ShortBy b d u o request) (one-short-by b u o request d)
+
+  module _ (kind x : ℕ) (s : List ℕ) (r r₂ : ℕ) where
+    pub one-write-by-return : (s′ s₂′ : List ℕ) → WriteByReturns b d kind x s r s′ → WriteByReturns b d kind x s r₂ s₂′
+        → (r ≡ r₂) × (s′ ≡ s₂′)
+    unfolding WriteByReturns
+    one-write-by-return = one-return (WriteBy b d kind x s) (one-write-by b d kind x s) r r₂
+
+    pub one-read-by-return : (b₁ b₂ d₁ d₂ : List ℕ) → ReadByReturns b d kind x s r b₁ d₁ → ReadByReturns b d kind x s r₂ b₂ d₂
+        → (r ≡ r₂) × (b₁ ≡ b₂) × (d₁ ≡ d₂)
+    unfolding ReadByReturns
+    one-read-by-return = one-both (ReadBy b d kind x s) (one-read-by b d kind x s) r r₂
 
 -- ---- the block as it stands
 

@@ -9,7 +9,8 @@ use Rattle.index.specs.Numbers.{First, Answers}
 use Rattle.index.specs.Block.{size, key, id, countAt}
 use Rattle.index.specs.Message.{IsKind, kindOf}
 use Rattle.index.specs.Calls.{blockNeeds, Makes, Message, WritesSet, ReadsSet}
-use Rattle.rights.specs.Questions.{Full, Short}
+use Rattle.directory.specs.By.{MakesDirectory, MessageBy, ReadBy, WriteBy}
+use Rattle.rights.specs.Questions.{Full, Short, FullBy, ShortBy}
 
 -- The number n and the value v, which fits 32 bits, as one number r of 64 bits.
 pub record Packed (n v r : ℕ) : Type 0 where
@@ -34,11 +35,13 @@ pub record Parts (rights user object v : ℕ) : Type 0 where
   pub rights-fit : rights < 16
   pub user-fits : user < 16384
 
+-- The number n and the value v of a full question: v has three parts, which with n are an outcome of it.
+abbrev pub InParts : (ℕ × ℕ × ℕ × ℕ → Type 0) → ℕ → ℕ → Type 0
+InParts Outcome n v =
+    (rights : ℕ) × (user : ℕ) × (object : ℕ) × Parts rights user object v × Outcome (n, rights, user, object)
+
 unfoldable pub RightsReturns : List ℕ → ℕ → ℕ → ℕ → ℕ → Type 0
-RightsReturns b u o request r =
-    Returned
-    (λ n v.
-    (rights : ℕ) × (user : ℕ) × (object : ℕ) × Parts rights user object v × Full b u o request (n, rights, user, object)) r
+RightsReturns b u o request r = Returned (InParts (Full b u o request)) r
 
 unfoldable pub MayReturns : List ℕ → ℕ → ℕ → ℕ → ℕ → Type 0
 MayReturns b u o request r = Returned (λ n v. Short b u o request (n, v)) r
@@ -48,6 +51,26 @@ WriteReturns b kind x out r out′ = Returned (λ n v. WritesSet b kind x out (n
 
 unfoldable pub ReadReturns : List ℕ → ℕ → ℕ → List ℕ → ℕ → List ℕ → Type 0
 ReadReturns b kind x text r b′ = Returned (λ n v. ReadsSet b kind x text (n, v, b′)) r
+
+-- ---- M-106: by a directory
+
+unfoldable pub DirectoryReturns : List ℕ → List ℕ → ℕ → List ℕ → Type 0
+DirectoryReturns b d r d′ = Returned (λ n v. (v ≡ 0) × MakesDirectory b d (n, d′)) r
+
+unfoldable pub MessageByReturns : List ℕ → List ℕ → List ℕ → ℕ → List ℕ → List ℕ → Type 0
+MessageByReturns b d m r b′ d′ = Returned (λ n v. MessageBy b d m (n, v, b′, d′)) r
+
+unfoldable pub RightsByReturns : List ℕ → List ℕ → ℕ → ℕ → ℕ → ℕ → Type 0
+RightsByReturns b d u o request r = Returned (InParts (FullBy b d u o request)) r
+
+unfoldable pub MayByReturns : List ℕ → List ℕ → ℕ → ℕ → ℕ → ℕ → Type 0
+MayByReturns b d u o request r = Returned (λ n v. ShortBy b d u o request (n, v)) r
+
+unfoldable pub WriteByReturns : List ℕ → List ℕ → ℕ → ℕ → List ℕ → ℕ → List ℕ → Type 0
+WriteByReturns b d kind x out r out′ = Returned (λ n v. WriteBy b d kind x out (n, v, out′)) r
+
+unfoldable pub ReadByReturns : List ℕ → List ℕ → ℕ → ℕ → List ℕ → ℕ → List ℕ → List ℕ → Type 0
+ReadByReturns b d kind x text r b′ d′ = Returned (λ n v. ReadBy b d kind x text (n, v, b′, d′)) r
 
 -- ---- a block as it stands, record by record: only the first of these four calls tests it
 

@@ -1,5 +1,5 @@
 // The C interface: each call returns the refusal's number times 2^32, plus a value. On refusal the value is 0, but for 9,
-// which comes with the place of the text.
+// which comes with the place of the text. A call whose name ends in `_by` is the call of that name, by a directory.
 use index::LETTER_COUNT;
 use index::Took;
 use index::Wrote;
@@ -7,7 +7,8 @@ use rights::Answer;
 use rights::Rights;
 ghost use mathlib.Core.Path.{_≡_};
 ghost use Prim.Native.Nat.{_<_};
-ghost use Rattle.anaqsiro.specs.Returned.{Packed, Parts, MakeReturns, MessageReturns, RightsReturns, MayReturns, WriteReturns, ReadReturns, TestedReturns, SizeReturns, RecordReturns, CountReturns};
+ghost use Rattle.anaqsiro.specs.Returned.{Packed, Parts, MakeReturns, MessageReturns, RightsReturns, MayReturns, WriteReturns, ReadReturns, DirectoryReturns, MessageByReturns, RightsByReturns, MayByReturns, WriteByReturns, ReadByReturns, TestedReturns, SizeReturns, RecordReturns, CountReturns};
+ghost use Rattle.anaqsiro.specs.Answered.{RightsFit, RightsAs, AnswerAs, WroteFits, WroteAs, TookFits, TookAs};
 
 // The number and the value as one number.
 fn packed(number: u8, value: u64) -> u64
@@ -25,6 +26,56 @@ fn parts(rights: u8, user: u16, object: u16) -> u64
     rights as u64 + 16 * user as u64 + 262144 * object as u64
 }
 
+// ---- each answer of the libraries below, as one number
+
+// The full question: the value is the rights held of those requested, plus 2^4 times the number of M records examined on the user's
+// side, plus 2^18 times that on the object's.
+fn of_rights(answer: Rights) -> u64
+    requires { ⌜ RightsFit answer ⌝ }
+    ensures { λ r. ⌜ RightsAs answer r ⌝ }
+{
+    match answer {
+        Rights::Held(mask, of_user, of_object) => packed(0, parts(mask, of_user, of_object)),
+        Rights::Refused(number) => packed(number, 0),
+    }
+}
+
+// The short question: the value is 1 for yes and 0 for no.
+fn of_answer(answer: Answer) -> u64
+    ensures { λ r. ⌜ AnswerAs answer r ⌝ }
+{
+    match answer {
+        Answer::Yes => packed(0, 1),
+        Answer::No => packed(0, 0),
+        Answer::Refused(number) => packed(number, 0),
+    }
+}
+
+// A set written as text: the value is the text's length.
+fn of_wrote(wrote: Wrote) -> u64
+    requires { ⌜ WroteFits wrote ⌝ }
+    ensures { λ r. ⌜ WroteAs wrote r ⌝ }
+{
+    match wrote {
+        Wrote::Text(length) => packed(0, length as u64),
+        Wrote::Refused(number) => packed(number, 0),
+    }
+}
+
+// A set read from text: the value is how many records it has, and with 9 the place of the text.
+fn of_took(took: Took) -> u64
+    requires { ⌜ TookFits took ⌝ }
+    ensures { λ r. ⌜ TookAs took r ⌝ }
+{
+    match took {
+        Took::Set(records) => packed(0, records as u64),
+        Took::Wrong(place) => packed(9, place as u64),
+        Took::Refused(number) => packed(number, 0),
+    }
+}
+
+// ---- the calls
+
 // An empty block.
 #[no_mangle]
 pub extern "C" fn anaqsiro_make(block: &mut [u8]) -> u64
@@ -41,51 +92,109 @@ pub extern "C" fn anaqsiro_message(block: &mut [u8], message: &[u8]) -> u64
     packed(index::message(block, message), 0)
 }
 
-// The full question; the value is the rights held of those requested, plus 2^4 times the number of M records examined on the user's
-// side, plus 2^18 times that on the object's.
+// The full question.
 #[no_mangle]
 pub extern "C" fn anaqsiro_rights(block: &[u8], user: u64, object: u64, request: u64) -> u64
     ensures { λ r. ⌜ RightsReturns (now (block .entry)) user object request r ⌝ }
 {
-    match rights::rights_of(block, user, object, request) {
-        Rights::Held(mask, of_user, of_object) => packed(0, parts(mask, of_user, of_object)),
-        Rights::Refused(number) => packed(number, 0),
-    }
+    of_rights(rights::rights_of(block, user, object, request))
 }
 
-// The short question; the value is 1 for yes and 0 for no.
+// The short question.
 #[no_mangle]
 pub extern "C" fn anaqsiro_may(block: &[u8], user: u64, object: u64, request: u64) -> u64
     ensures { λ r. ⌜ MayReturns (now (block .entry)) user object request r ⌝ }
 {
-    match rights::may(block, user, object, request) {
-        Answer::Yes => packed(0, 1),
-        Answer::No => packed(0, 0),
-        Answer::Refused(number) => packed(number, 0),
-    }
+    of_answer(rights::may(block, user, object, request))
 }
 
-// A set is written as text; the value is the text's length.
+// A set is written as text.
 #[no_mangle]
 pub extern "C" fn anaqsiro_write(block: &[u8], kind: u64, key: u64, out: &mut [u8]) -> u64
     ensures { λ r. ⌜ WriteReturns (now (block .entry)) kind key (now (out .entry)) r (now (out .exit)) ⌝ }
 {
-    match index::write_set(block, kind, key, out) {
-        Wrote::Text(length) => packed(0, length as u64),
-        Wrote::Refused(number) => packed(number, 0),
-    }
+    of_wrote(index::write_set(block, kind, key, out))
 }
 
-// A set is read from text; the value is how many records it has, and with 9 the place of the text.
+// A set is read from text.
 #[no_mangle]
 pub extern "C" fn anaqsiro_read(block: &mut [u8], kind: u64, key: u64, text: &[u8]) -> u64
     ensures { λ r. ⌜ ReadReturns (now (block .entry)) kind key (now (text .entry)) r (now (block .exit)) ⌝ }
 {
-    match index::read_set(block, kind, key, text) {
-        Took::Set(records) => packed(0, records as u64),
-        Took::Wrong(place) => packed(9, place as u64),
-        Took::Refused(number) => packed(number, 0),
-    }
+    of_took(index::read_set(block, kind, key, text))
+}
+
+// ---- by a directory
+
+// The directory of a block.
+#[no_mangle]
+pub extern "C" fn anaqsiro_directory(block: &[u8], directory: &mut [u16]) -> u64
+    ensures { λ r. ⌜ DirectoryReturns (now (block .entry)) (now (directory .entry)) r (now (directory .exit)) ⌝ }
+{
+    packed(directory::make_directory(block, directory), 0)
+}
+
+#[no_mangle]
+pub extern "C" fn anaqsiro_message_by(
+    block: &mut [u8],
+    directory: &mut [u16],
+    message: &[u8],
+) -> u64
+    ensures { λ r. ⌜ MessageByReturns (now (block .entry)) (now (directory .entry)) (now (message .entry)) r (now (block .exit)) (now (directory .exit)) ⌝ }
+{
+    packed(directory::message_by(block, directory, message), 0)
+}
+
+#[no_mangle]
+pub extern "C" fn anaqsiro_rights_by(
+    block: &[u8],
+    directory: &[u16],
+    user: u64,
+    object: u64,
+    request: u64,
+) -> u64
+    ensures { λ r. ⌜ RightsByReturns (now (block .entry)) (now (directory .entry)) user object request r ⌝ }
+{
+    of_rights(rights::rights_by(block, directory, user, object, request))
+}
+
+#[no_mangle]
+pub extern "C" fn anaqsiro_may_by(
+    block: &[u8],
+    directory: &[u16],
+    user: u64,
+    object: u64,
+    request: u64,
+) -> u64
+    ensures { λ r. ⌜ MayByReturns (now (block .entry)) (now (directory .entry)) user object request r ⌝ }
+{
+    of_answer(rights::may_by(block, directory, user, object, request))
+}
+
+#[no_mangle]
+pub extern "C" fn anaqsiro_write_by(
+    block: &[u8],
+    directory: &[u16],
+    kind: u64,
+    key: u64,
+    out: &mut [u8],
+) -> u64
+    ensures { λ r. ⌜ WriteByReturns (now (block .entry)) (now (directory .entry)) kind key (now (out .entry)) r (now (out .exit)) ⌝ }
+{
+    of_wrote(directory::write_by(block, directory, kind, key, out))
+}
+
+#[no_mangle]
+pub extern "C" fn anaqsiro_read_by(
+    block: &mut [u8],
+    directory: &mut [u16],
+    kind: u64,
+    key: u64,
+    text: &[u8],
+) -> u64
+    ensures { λ r. ⌜ ReadByReturns (now (block .entry)) (now (directory .entry)) kind key (now (text .entry)) r (now (block .exit)) (now (directory .exit)) ⌝ }
+{
+    of_took(directory::read_by(block, directory, kind, key, text))
 }
 
 // ---- a block as it stands, record by record: only the first call tests it

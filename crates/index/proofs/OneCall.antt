@@ -13,7 +13,7 @@ use Rattle.index.specs.declared.Wrote.{Wrote}
 use Rattle.index.specs.declared.Wrote.the-variants as wrote
 use Rattle.index.specs.declared.Took.{Took}
 use Rattle.index.specs.declared.Took.the-variants as took
-use Rattle.index.specs.Calls.{WriteAnswers, ReadAnswers, makeNeeds, setNeeds, writeNeeds, Made, Makes, Written, WritesSet, Read, RoomFor, OfNone, OfSet, ReadsText, ReadsSet}
+use Rattle.index.specs.Calls.{WroteMeans, TookMeans, WriteAnswers, ReadAnswers, makeNeeds, setNeeds, writeNeeds, Made, Makes, Written, WritesSet, Read, RoomFor, OfNone, OfSet, ReadsText, ReadsSet}
 use mathlib.Core.Logic.{inl, inr, ⊎-elim}
 use native.Mathlib.Decide.{ℕ-discrete}
 use Rattle.index.proofs.ThreeKinds.{kind?}
@@ -83,44 +83,43 @@ unfolding ReadsSet
 one-read b kind x text =
     one-first (λ n. (n, 0, b)) (setNeeds b kind x) (ReadsText b (kindOf kind) x text) (one-text b (kindOf kind) x text)
 
--- ---- the same for the answers of the code: a value, or the number of a refusal
+-- ---- the same for the answers of the code, of any call with one outcome: its number, its value, and what it leaves
 
-module _ (P : ℕ × ℕ × List ℕ → Type 0) (one : (o o′ : ℕ × ℕ × List ℕ) → P o → P o′ → o ≡ o′) {n m : ℕ} {a b : List ℕ} where
-  one-value : {k : ℕ} → P (k, n, a) → P (k, m, b) → (n ≡ m) × (a ≡ b)
-  one-value p q = let e = one _ _ p q in (ap (λ (o : ℕ × ℕ × List ℕ). o .1) e, ap (λ (o : ℕ × ℕ × List ℕ). o .2) e)
+module _ {S : Type 0} (Outcome : ℕ × ℕ × S → Type 0) (one : (o o′ : ℕ × ℕ × S) → Outcome o → Outcome o′ → o ≡ o′) where
+  module _ {n m : ℕ} {s t : S} where
+    one-value : {k : ℕ} → Outcome (k, n, s) → Outcome (k, m, t) → (n ≡ m) × (s ≡ t)
+    one-value p q = let e = one _ _ p q in (ap (λ (o : ℕ × ℕ × S). o .1) e, ap (λ (o : ℕ × ℕ × S). o .2) e)
 
-  one-number : P (n, 0, a) → P (m, 0, b) → (n ≡ m) × (a ≡ b)
-  one-number p q = let e = one _ _ p q in (ap (λ (o : ℕ × ℕ × List ℕ). o .0) e, ap (λ (o : ℕ × ℕ × List ℕ). o .2) e)
+    one-number : Outcome (n, 0, s) → Outcome (m, 0, t) → (n ≡ m) × (s ≡ t)
+    one-number p q = let e = one _ _ p q in (ap (λ (o : ℕ × ℕ × S). o .0) e, ap (λ (o : ℕ × ℕ × S). o .2) e)
 
-  not-both : {k l : ℕ} → (k ≡ l → ⊥) → P (k, n, a) → P (l, m, b) → ⊥
-  not-both d p q = d (ap (λ (o : ℕ × ℕ × List ℕ). o .0) (one _ _ p q))
+    not-both : {k l : ℕ} → (k ≡ l → ⊥) → Outcome (k, n, s) → Outcome (l, m, t) → ⊥
+    not-both d p q = d (ap (λ (o : ℕ × ℕ × S). o .0) (one _ _ p q))
+
+  pub wrote-once : (r r′ : Wrote) (s t : S) → WroteMeans (λ n v. Outcome (n, v, s)) r → WroteMeans (λ n v. Outcome (n, v, t)) r′
+      → (r ≡ r′) × (s ≡ t)
+  wrote-once (wrote.Text n) (wrote.Text m) s t p q = let e = one-value p q in (ap wrote.Text (e .0), e .1)
+  wrote-once (wrote.Text n) (wrote.Refused m) s t p q = absurd (not-both (λ e. omega (arith, q .0)) p (q .1))
+  wrote-once (wrote.Refused n) (wrote.Text m) s t p q = absurd (not-both (λ e. omega (arith, p .0)) (p .1) q)
+  wrote-once (wrote.Refused n) (wrote.Refused m) s t p q = let e = one-number (p .1) (q .1) in (ap wrote.Refused (e .0), e .1)
+
+  pub took-once : (r r′ : Took) (s t : S) → TookMeans (λ n v. Outcome (n, v, s)) r → TookMeans (λ n v. Outcome (n, v, t)) r′
+      → (r ≡ r′) × (s ≡ t)
+  took-once (took.Set n) (took.Set m) s t p q = let e = one-value p q in (ap took.Set (e .0), e .1)
+  took-once (took.Wrong n) (took.Wrong m) s t p q = let e = one-value p q in (ap took.Wrong (e .0), e .1)
+  took-once (took.Refused n) (took.Refused m) s t p q = let e = one-number (p .2) (q .2) in (ap took.Refused (e .0), e .1)
+  took-once (took.Set n) (took.Wrong m) s t p q = absurd (not-both (λ e. omega arith) p q)
+  took-once (took.Wrong n) (took.Set m) s t p q = absurd (not-both (λ e. omega arith) p q)
+  took-once (took.Set n) (took.Refused m) s t p q = absurd (not-both (λ e. omega (arith, q .0)) p (q .2))
+  took-once (took.Refused n) (took.Set m) s t p q = absurd (not-both (λ e. omega (arith, p .0)) (p .2) q)
+  took-once (took.Wrong n) (took.Refused m) s t p q = absurd (not-both (λ e. q .1 (sym e)) p (q .2))
+  took-once (took.Refused n) (took.Wrong m) s t p q = absurd (not-both (p .1) (p .2) q)
 
 module _ (b : List ℕ) (kind x : ℕ) (s : List ℕ) where
   pub one-wrote : (r r′ : Wrote) (o o′ : List ℕ) → WriteAnswers b kind x s r o → WriteAnswers b kind x s r′ o′ → (r ≡ r′) × (o ≡ o′)
   unfolding WriteAnswers
-  one-wrote (wrote.Text n) (wrote.Text m) o o′ p q =
-      let e = one-value (WritesSet b kind x s) (one-write b kind x s) p q in (ap wrote.Text (e .0), e .1)
-  one-wrote (wrote.Text n) (wrote.Refused m) o o′ p q =
-      absurd (not-both (WritesSet b kind x s) (one-write b kind x s) (λ e. omega (arith, q .0)) p (q .1))
-  one-wrote (wrote.Refused n) (wrote.Text m) o o′ p q =
-      absurd (not-both (WritesSet b kind x s) (one-write b kind x s) (λ e. omega (arith, p .0)) (p .1) q)
-  one-wrote (wrote.Refused n) (wrote.Refused m) o o′ p q =
-      let e = one-number (WritesSet b kind x s) (one-write b kind x s) (p .1) (q .1) in (ap wrote.Refused (e .0), e .1)
+  one-wrote = wrote-once (WritesSet b kind x s) (one-write b kind x s)
 
   pub one-took : (r r′ : Took) (o o′ : List ℕ) → ReadAnswers b kind x s r o → ReadAnswers b kind x s r′ o′ → (r ≡ r′) × (o ≡ o′)
   unfolding ReadAnswers
-  one-took (took.Set n) (took.Set m) o o′ p q =
-      let e = one-value (ReadsSet b kind x s) (one-read b kind x s) p q in (ap took.Set (e .0), e .1)
-  one-took (took.Wrong n) (took.Wrong m) o o′ p q =
-      let e = one-value (ReadsSet b kind x s) (one-read b kind x s) p q in (ap took.Wrong (e .0), e .1)
-  one-took (took.Refused n) (took.Refused m) o o′ p q =
-      let e = one-number (ReadsSet b kind x s) (one-read b kind x s) (p .2) (q .2) in (ap took.Refused (e .0), e .1)
-  one-took (took.Set n) (took.Wrong m) o o′ p q = absurd (not-both (ReadsSet b kind x s) (one-read b kind x s) (λ e. omega arith) p q)
-  one-took (took.Wrong n) (took.Set m) o o′ p q = absurd (not-both (ReadsSet b kind x s) (one-read b kind x s) (λ e. omega arith) p q)
-  one-took (took.Set n) (took.Refused m) o o′ p q =
-      absurd (not-both (ReadsSet b kind x s) (one-read b kind x s) (λ e. omega (arith, q .0)) p (q .2))
-  one-took (took.Refused n) (took.Set m) o o′ p q =
-      absurd (not-both (ReadsSet b kind x s) (one-read b kind x s) (λ e. omega (arith, p .0)) (p .2) q)
-  one-took (took.Wrong n) (took.Refused m) o o′ p q =
-      absurd (not-both (ReadsSet b kind x s) (one-read b kind x s) (λ e. q .1 (sym e)) p (q .2))
-  one-took (took.Refused n) (took.Wrong m) o o′ p q = absurd (not-both (ReadsSet b kind x s) (one-read b kind x s) (p .1) (p .2) q)
+  one-took = took-once (ReadsSet b kind x s) (one-read b kind x s)

@@ -106,13 +106,19 @@ ReadsText b kind x text o = OfNone b kind text o ⊎ OfSet b kind x text o
 unfoldable pub ReadsSet : List ℕ → ℕ → ℕ → List ℕ → (ℕ × ℕ × List ℕ) → Type 0
 ReadsSet b kind x text o = First (λ n. (n, 0, b)) (setNeeds b kind x) (ReadsText b (kindOf kind) x text) o
 
--- ---- what each case of an answer stands for: 01's number, and its value
+-- ---- what each case of an answer stands for: 01's number, and its value, which are an outcome of the call
+
+abbrev pub WroteMeans : (ℕ → ℕ → Type 0) → Wrote → Type 0
+WroteMeans Outcome (wrote.Text n) = Outcome 0 n
+WroteMeans Outcome (wrote.Refused n) = (0 < n) × Outcome n 0
+
+abbrev pub TookMeans : (ℕ → ℕ → Type 0) → Took → Type 0
+TookMeans Outcome (took.Set n) = Outcome 0 n
+TookMeans Outcome (took.Wrong place) = Outcome 9 place
+TookMeans Outcome (took.Refused n) = (0 < n) × (n ≡ 9 → ⊥) × Outcome n 0
 
 unfoldable pub WriteAnswers : List ℕ → ℕ → ℕ → List ℕ → Wrote → List ℕ → Type 0
-WriteAnswers b kind x out (wrote.Text n) out′ = WritesSet b kind x out (0, n, out′)
-WriteAnswers b kind x out (wrote.Refused n) out′ = (0 < n) × WritesSet b kind x out (n, 0, out′)
+WriteAnswers b kind x out r out′ = WroteMeans (λ n v. WritesSet b kind x out (n, v, out′)) r
 
 unfoldable pub ReadAnswers : List ℕ → ℕ → ℕ → List ℕ → Took → List ℕ → Type 0
-ReadAnswers b kind x text (took.Set n) b′ = ReadsSet b kind x text (0, n, b′)
-ReadAnswers b kind x text (took.Wrong place) b′ = ReadsSet b kind x text (9, place, b′)
-ReadAnswers b kind x text (took.Refused n) b′ = (0 < n) × (n ≡ 9 → ⊥) × ReadsSet b kind x text (n, 0, b′)
+ReadAnswers b kind x text r b′ = TookMeans (λ n v. ReadsSet b kind x text (n, v, b′)) r

@@ -59,6 +59,9 @@ pub const GREATEST_NAME: usize = 1023;
 // The greatest count.
 pub const GREATEST_COUNT: usize = 65535;
 
+// Keys and ids are numbers below this one. As a pair they are the key, plus this many times the id.
+pub const WIDE: usize = 65536;
+
 // The greatest length of a block.
 pub const GREATEST: usize = 40976;
 

@@ -1,19 +1,19 @@
 -- From the rights reached, the filters and the request to the answers.
 use Prim.Native.Nat.{ℕ, suc, _^_, _<_, _≤_}
 use mathlib.Core.Path.{_≡_, refl}
-use mathlib.Core.List.{List, [], _∷_}
+use mathlib.Core.List.{List, []}
 use mathlib.Core.Logic.{_↔_}
 use native.Mathlib.Omega.{arith}
-use Rattle.index.specs.Letters.{rightCount, allRights, In}
+use Rattle.index.specs.Letters.{rightCount, In}
 use Rattle.index.specs.Numbers.{First, Answers}
 use Rattle.index.specs.Block.{Sized, Good, IsName}
 use Rattle.index.specs.Calls.{blockNeeds}
 use Rattle.index.specs.Doors.{Mask}
-use Rattle.index.proofs.Firsts.{all-hold, refused-first, passed-first}
+use Rattle.index.proofs.Firsts.{all-hold, refuses, refused-first, passed-first}
 use Rattle.index.proofs.Masks.{mask-map, mask-covers}
 use Rattle.rights.specs.Held.{Passes, Holds}
 use Rattle.rights.specs.Marks.{Granted}
-use Rattle.rights.specs.Questions.{questionNeeds, Limited, HoldsAll}
+use Rattle.rights.specs.Questions.{askNeeds, questionNeeds, Limited, HoldsAll}
 
 -- A right is held where it is reached and passes the filters.
 pub holds : (b : List ℕ) (u o k : ℕ) → (Granted b u o k × Passes b o k) ↔ Holds b u o k
@@ -39,37 +39,31 @@ pub record Asked (b : List ℕ) (u o request : ℕ) : Type 0 where
   pub small : request < 2 ^ rightCount
 
 module _ (b : List ℕ) (u o request : ℕ) where
-  pub asked : (n : ℕ) → n ≡ 0 → Answers (questionNeeds b u o request) n → Asked b u o request
-  unfolding questionNeeds blockNeeds
-  asked n zero a =
-      let all = all-hold (questionNeeds b u o request) n (omega arith) (omega arith) a in
+  -- The tests of the block are passed, and then those of the question.
+  pub asked : Sized b → Good b → (n : ℕ) → n ≡ 0 → Answers (askNeeds u o request) n → Asked b u o request
+  asked sized good n zero a =
+      let all = all-hold (askNeeds u o request) n (omega arith) (omega arith) a in
       record {
-        sized = all .0;
-        good = all .1 .0;
-        user = all .1 .1 .0 .0;
-        object = all .1 .1 .0 .1;
-        some = all .1 .1 .1 .0 .0;
-        small = omega (arith, all .1 .1 .1 .0 .1);
+        sized = sized;
+        good = good;
+        user = all .0 .0;
+        object = all .0 .1;
+        some = all .1 .0 .0;
+        small = omega (arith, all .1 .0 .1);
       }
 
-  -- The block's own requirements come first, and then those of the question.
-  abbrev pub own : List (ℕ × Type 0)
-  own = (4, IsName u × IsName o) ∷ (5, (1 ≤ request) × (request ≤ allRights)) ∷ []
-
-  pub refused-block : (n : ℕ) → (n ≡ 0 → ⊥) → Answers (blockNeeds b) n → Answers (questionNeeds b u o request) n
-  unfolding questionNeeds
-  refused-block n some a = refused-first (λ m. m) (blockNeeds b) own (λ m. m ≡ 0) n (positive n some) a
-
-  pub passed-block : (n : ℕ) → n ≡ 0 → Answers (blockNeeds b) n → (r : ℕ) → Answers own r → Answers (questionNeeds b u o request) r
-  unfolding questionNeeds blockNeeds
-  passed-block n zero a r later =
-      passed-first (λ m. m) (blockNeeds b) own (λ m. m ≡ 0) r (all-hold (blockNeeds b) n (omega arith) (omega arith) a) later
-
   module _ {O : Type 0} (refusal : ℕ → O) (accepted : O → Type 0) where
-    pub refused : (n : ℕ) → 0 < n → Answers (questionNeeds b u o request) n
+    pub refused : Sized b → Good b → (n : ℕ) → (n ≡ 0 → ⊥) → Answers (askNeeds u o request) n
         → First refusal (questionNeeds b u o request) accepted (refusal n)
     unfolding questionNeeds blockNeeds
-    refused n some a = refused-first refusal (questionNeeds b u o request) [] accepted n some a
+    refused sized good n some a =
+        passed-first refusal (blockNeeds b) (askNeeds u o request) accepted (refusal n) (sized, (good, tt))
+        (refuses refusal accepted (askNeeds u o request) some a)
+
+    -- 1 and 2 of the block.
+    pub refused-block : (n : ℕ) → (n ≡ 0 → ⊥) → Answers (blockNeeds b) n → First refusal (questionNeeds b u o request) accepted (refusal n)
+    unfolding questionNeeds
+    refused-block n some a = refused-first refusal (blockNeeds b) (askNeeds u o request) accepted n (omega (arith, some)) a
 
     pub accepts : (out : O) → Asked b u o request → accepted out → First refusal (questionNeeds b u o request) accepted out
     unfolding questionNeeds blockNeeds

@@ -1,25 +1,20 @@
 -- A record by its kind, key and id, and by its number.
-use Prim.Native.Nat.{ℕ, _+_, _/_, _%_, _^_, _<_, _≤_}
-use mathlib.Core.Path.{_≡_, refl, sym, _∙_}
+use Prim.Native.Nat.{ℕ, _+_, _^_, _<_, _≤_}
+use mathlib.Core.Path.{refl, sym, _∙_}
 use mathlib.Core.List.{List}
 use mathlib.Core.Logic.{_↔_, ⊎-elim}
 use native.Mathlib.Omega.{arith}
 use Rattle.index.specs.declared.Kind.{Kind}
 use Rattle.index.specs.declared.Kind.the-variants.{Membership}
 use Rattle.index.specs.Letters.{rightCount}
-use Rattle.index.specs.Block.{IsName, records, size, Of, place, key, id, Sized, Good, count}
+use Rattle.index.specs.Block.{size, Of, key, id, Sized, Good, count}
 use Rattle.index.specs.Places.{At}
-use Rattle.index.specs.Doors.{NetAt, Has, PairOf}
+use Rattle.index.specs.Doors.{NetAt}
 use Rattle.index.proofs.Bytes.{number-small}
-use Rattle.index.proofs.Records.{gap-in, where-is, count-at, count-none, of-records, no-lower}
+use Rattle.index.proofs.Records.{gap-in, where-is, count-at, count-none, of-records}
 use Rattle.rights.specs.Held.{Is, Net}
-use Rattle.rights.specs.Lookup.{wide}
 
--- The end of the parts is a 16-bit number.
-pub few : {b : List ℕ} → Good b → place (records b) < 2 ^ 16
-few {b} g = omega (arith, g .end-offset, number-small b 14 (g .bytes))
-
--- The size of the M part is one.
+-- The size of the M part is a 16-bit number.
 pub few-members : {b : List ℕ} → Good b → size b Membership < 2 ^ 16
 few-members {b} g = number-small b 0 (g .bytes)
 
@@ -28,31 +23,10 @@ pub no-more-members : {b : List ℕ} → Sized b → Good b → size b Membershi
 unfolding Sized
 no-more-members {b} sized g = omega (arith, sized, g .fits, gap-in Membership b (size b Membership) (omega arith))
 
--- A good block has all of its records.
-pub has-record : {b : List ℕ} → Good b → {i : ℕ} → i < records b → Has b i
-has-record g l = omega (arith, g .fits)
-
--- Key and id of a record, as the door gives them.
-module _ {b : List ℕ} (g : Good b) {i r : ℕ} (l : i < records b) (told : PairOf b i r) where
-  pub pair-key : r % wide ≡ key b i
-  pair-key = omega (arith, told .whole (has-record g l), number-small b (place i) (g .bytes))
-
-  pub pair-id : r / wide ≡ id b i
-  pair-id = omega (arith, told .whole (has-record g l), number-small b (place i) (g .bytes))
-
 pub at-self : {b : List ℕ} {kind : Kind} {i : ℕ} → Of b kind i → At b kind (key b i) (id b i) i
 at-self of = record { of = of; has-key = refl; has-id = refl }
 
 module _ {b : List ℕ} (g : Good b) (kind : Kind) where
-  pub key-name : {i : ℕ} → Of b kind i → IsName (key b i)
-  key-name {i} of = g .keys i (of-records kind b i of)
-
-  pub id-name : {i : ℕ} → Of b kind i → IsName (id b i)
-  id-name {i} of = g .ids i (of-records kind b i of)
-
-  pub keys-rise : (i j : ℕ) → i ≤ j → Of b kind i → Of b kind j → key b i ≤ key b j
-  keys-rise i j l of of′ = omega (arith, no-lower b g kind i j l of of′, id-name of′)
-
   module _ {x y : ℕ} where
     counted : (k : ℕ) → 0 < count b kind x y k → (i : ℕ) × At b kind x y i
     counted k pos = ⊎-elim (λ a. a) (λ n. absurd (omega (arith, count-none b kind x y k n))) (where-is b x y kind)

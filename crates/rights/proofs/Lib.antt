@@ -14,7 +14,9 @@ mod Sifting
 mod Granting
 mod Sides
 mod Asking
+mod AskingBy
 pub mod OneAnswer
+pub mod SameAnswers
 pub mod ShortAgrees
 mod ChainTest
 mod FilterTest

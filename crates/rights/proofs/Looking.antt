@@ -8,8 +8,9 @@ use native.Mathlib.Nat.{eq-or-lt-of-le}
 use Rattle.index.specs.declared.Kind.{Kind}
 use Rattle.index.specs.Block.{IsName, from, size, Of, key, Good}
 use Rattle.index.proofs.Range.{lt-or-le}
-use Rattle.rights.specs.Lookup.{KeyBefore, StartsAt}
-use Rattle.rights.proofs.ByNumber.{keys-rise}
+use Rattle.directory.specs.Directory.{StartsAt}
+use Rattle.rights.specs.Lookup.{KeyBefore}
+use Rattle.directory.proofs.Numbered.{keys-rise}
 
 -- A step that is taken or not is no longer than itself.
 pub no-more : {step key x t : ℕ} → (key < x → t ≡ step) × (x ≤ key → t ≡ 0) → t ≤ step
@@ -117,3 +118,17 @@ module _ {b : List ℕ} (kind : Kind) (x i e : ℕ) (start : StartsAt b kind x i
           let at : Of b kind e = (omega (arith, start .low), omega (arith, of .1)) in
           ne (omega (arith, start .above e l (at .1), keys-rise g kind e j q at of)))
           stop
+
+  -- By a directory: from where the name's records start up to where those of the next one do.
+  pub keyed-by : StartsAt b kind (x + 1) e → (j : ℕ) → ((i ≤ j) × (j < e)) ↔ (Of b kind j × (key b j ≡ x))
+  keyed-by next j = (
+    (λ p. (
+      (omega (arith, start .low, p .0), omega (arith, next .high, p .1)),
+      let least = start .above j (p .0) (omega (arith, next .high, p .1)) in
+          omega (arith, next .below j (omega (arith, start .low, p .0)) (p .1)),
+    )),
+    (λ p. (
+      ⊎-elim (λ q. absurd (omega (arith, start .below j (p .0 .0) q, p .1))) (λ q. q) (lt-or-le j i),
+      ⊎-elim (λ q. q) (λ q. absurd (omega (arith, next .above j q (p .0 .1), p .1))) (lt-or-le j e),
+    )),
+  )

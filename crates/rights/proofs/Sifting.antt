@@ -9,7 +9,7 @@ use Rattle.index.specs.declared.Kind.{Kind}
 use Rattle.index.specs.Letters.{In}
 use Rattle.index.specs.Doors.{Mask}
 use Rattle.index.proofs.Masks.{in-zero, mask-map}
-use Rattle.rights.specs.declared.lookup.Span.{Span}
+use Rattle.directory.specs.declared.Span.{Span}
 use Rattle.rights.specs.Lookup.{Keyed, EachOf}
 
 -- At record i, of those from lo on: r has the rights of which Q holds, and P of each record of x that stands before i.

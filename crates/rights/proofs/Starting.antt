@@ -10,7 +10,7 @@ use lib.ListN.{getD, set, length-set, replicate, getD-replicate, length-replicat
 use lib.Seq.{getD-set-same, getD-set-other}
 use Rattle.index.specs.declared.Kind.the-variants.{Membership}
 use Rattle.index.specs.Block.{nameCount, IsName}
-use Rattle.rights.specs.Lookup.{StartsAt}
+use Rattle.directory.specs.Directory.{StartsAt}
 use Rattle.rights.specs.Fronts.{Named, Firsts, Turn}
 
 -- No name has been looked up.

@@ -13,7 +13,8 @@ use Rattle.rights.specs.declared.walk.Carry.{Carry}
 use Rattle.rights.specs.declared.walk.Sweep.{Sweep}
 use Rattle.rights.specs.Examined.{HowMany}
 use Rattle.rights.specs.Marks.{Marked, Carried, Brings, Grew}
-use Rattle.rights.specs.Lookup.{wide, StartsAt}
+use Rattle.directory.specs.Directory.{StartsAt}
+use Rattle.rights.specs.Lookup.{wide}
 
 -- ---- the names whose marks grew
 

@@ -3,20 +3,17 @@ use Prim.Native.Nat.{ℕ, _+_, _<_, _≤_}
 use mathlib.Core.Path.{_≡_}
 use mathlib.Core.List.{List}
 use mathlib.Core.Logic.{_↔_}
+use lib.ListN.{length}
 use Rattle.index.specs.declared.Kind.{Kind}
 use Rattle.index.specs.declared.Kind.the-variants.{Permission, Filter}
-use Rattle.index.specs.Block.{nameCount, Of, key, from, size}
-use Rattle.rights.specs.declared.lookup.Span.{Span}
+use Rattle.index.specs.Block.{nameCount, Of, key}
+use Rattle.directory.specs.declared.Span.{Span}
+use Rattle.directory.specs.Directory.{Own}
 use Rattle.rights.specs.Held.{Is, Net}
 
 -- Keys and ids, of 16 bits, are below this number.
 abbrev pub wide : ℕ
 wide = 65536
-
--- The records of the kind are those of the span.
-pub record PartOf (b : List ℕ) (kind : Kind) (span : Span) : Type 0 where
-  pub first : span .from ≡ from b kind
-  pub last : span .end ≡ from b kind + size b kind
 
 -- r is the key of record i, if it is before the end, or else a number that is below no name.
 pub record KeyBefore (b : List ℕ) (end i r : ℕ) : Type 0 where
@@ -24,12 +21,9 @@ pub record KeyBefore (b : List ℕ) (end i r : ℕ) : Type 0 where
   pub past : end ≤ i → r + 1 ≡ wide
   pub small : r < wide
 
--- The keys from x on start at number i: the records of the kind below it have keys below x, and the others have not.
-pub record StartsAt (b : List ℕ) (kind : Kind) (x i : ℕ) : Type 0 where
-  pub low : from b kind ≤ i
-  pub high : i ≤ from b kind + size b kind
-  pub below : (j : ℕ) → from b kind ≤ j → j < i → key b j < x
-  pub above : (j : ℕ) → i ≤ j → j < from b kind + size b kind → x ≤ key b j
+-- A lent directory: none, which is an empty slice, or the block's own.
+abbrev pub Lent : List ℕ → List ℕ → Type 0
+Lent b d = 0 < length d → Own b d
 
 -- The records of the kind with the key x are those of the span.
 abbrev pub Keyed : List ℕ → Kind → ℕ → Span → Type 0

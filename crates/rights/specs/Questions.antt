@@ -1,4 +1,4 @@
--- 01, "The rights": the two questions, and the numbers they give; M-109 for the records examined.
+-- 01, "The rights": the two questions, and the numbers they give; M-109 for the records examined, M-106 for a directory.
 use Prim.Native.Nat.{ℕ, _<_, _≤_}
 use mathlib.Core.Path.{_≡_}
 use mathlib.Core.List.{List, [], _∷_, _++_}
@@ -8,6 +8,7 @@ use Rattle.index.specs.Numbers.{First}
 use Rattle.index.specs.Block.{IsName}
 use Rattle.index.specs.Doors.{Mask}
 use Rattle.index.specs.Calls.{blockNeeds}
+use Rattle.directory.specs.By.{By}
 use Rattle.rights.specs.declared.Rights.{Rights}
 use Rattle.rights.specs.declared.Rights.the-variants as rights
 use Rattle.rights.specs.declared.Answer.{Answer}
@@ -15,10 +16,13 @@ use Rattle.rights.specs.declared.Answer.the-variants as answer
 use Rattle.rights.specs.Held.{Holds}
 use Rattle.rights.specs.Examined.{Examined, roundCount}
 
--- 1 and 2 of the block; 4: "a name above 1023"; 5: "request 0 or above 15".
+-- 4: "a name above 1023"; 5: "request 0 or above 15".
+abbrev pub askNeeds : ℕ → ℕ → ℕ → List (ℕ × Type 0)
+askNeeds u o request = (4, IsName u × IsName o) ∷ (5, (1 ≤ request) × (request ≤ allRights)) ∷ []
+
+-- Before them come 1 and 2 of the block.
 unfoldable pub questionNeeds : List ℕ → ℕ → ℕ → ℕ → List (ℕ × Type 0)
-questionNeeds b u o request =
-    blockNeeds b ++ ((4, IsName u × IsName o) ∷ (5, (1 ≤ request) × (request ≤ allRights)) ∷ [])
+questionNeeds b u o request = blockNeeds b ++ askNeeds u o request
 
 -- "the rights held, limited to the rights requested"
 unfoldable pub Limited : List ℕ → ℕ → ℕ → ℕ → ℕ → Type 0
@@ -48,13 +52,32 @@ Short b u o request a =
     First (λ n. (n, 0)) (questionNeeds b u o request)
     (λ a. (a .0 ≡ 0) × (a .1 < 2) × ((a .1 ≡ 1) ↔ HoldsAll b u o request)) a
 
--- ---- what each case of an answer stands for: 01's number, and its values
+-- M-106: the two questions by a directory. "Answers through the directory are proved equal to answers without it".
+unfoldable pub FullBy : List ℕ → List ℕ → ℕ → ℕ → ℕ → (ℕ × ℕ × ℕ × ℕ) → Type 0
+FullBy b d u o request a = By b d unreported (Full b u o request) a
+
+unfoldable pub ShortBy : List ℕ → List ℕ → ℕ → ℕ → ℕ → (ℕ × ℕ) → Type 0
+ShortBy b d u o request a = By b d (λ n. (n, 0)) (Short b u o request) a
+
+-- ---- what each case of an answer stands for: 01's number, and its values, which are an outcome of the call
+
+abbrev pub RightsMean : (ℕ × ℕ × ℕ × ℕ → Type 0) → Rights → Type 0
+RightsMean Outcome (rights.Held mask user object) = Outcome (0, mask, user, object)
+RightsMean Outcome (rights.Refused n) = (0 < n) × Outcome (unreported n)
+
+abbrev pub AnswerMeans : (ℕ × ℕ → Type 0) → Answer → Type 0
+AnswerMeans Outcome answer.Yes = Outcome (0, 1)
+AnswerMeans Outcome answer.No = Outcome (0, 0)
+AnswerMeans Outcome (answer.Refused n) = (0 < n) × Outcome (n, 0)
 
 unfoldable pub Asks : List ℕ → ℕ → ℕ → ℕ → Rights → Type 0
-Asks b u o request (rights.Held mask user object) = Full b u o request (0, mask, user, object)
-Asks b u o request (rights.Refused n) = (0 < n) × Full b u o request (unreported n)
+Asks b u o request r = RightsMean (Full b u o request) r
+
+unfoldable pub AsksBy : List ℕ → List ℕ → ℕ → ℕ → ℕ → Rights → Type 0
+AsksBy b d u o request r = RightsMean (FullBy b d u o request) r
 
 unfoldable pub AsksAll : List ℕ → ℕ → ℕ → ℕ → Answer → Type 0
-AsksAll b u o request answer.Yes = Short b u o request (0, 1)
-AsksAll b u o request answer.No = Short b u o request (0, 0)
-AsksAll b u o request (answer.Refused n) = (0 < n) × Short b u o request (n, 0)
+AsksAll b u o request r = AnswerMeans (Short b u o request) r
+
+unfoldable pub AsksAllBy : List ℕ → List ℕ → ℕ → ℕ → ℕ → Answer → Type 0
+AsksAllBy b d u o request r = AnswerMeans (ShortBy b d u o request) r

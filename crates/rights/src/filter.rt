@@ -1,22 +1,22 @@
 // The filters of an object: each of them binds.
 
-use crate::lookup::WIDE;
 use crate::lookup::records_of;
 use index::ALL;
 use index::Kind;
+use index::WIDE;
 ghost use Prim.Native.Nat.{_<_, _^_};
 ghost use Rattle.index.specs.Letters.{rightCount, In};
 ghost use Rattle.index.specs.Block.{Sized, Good, IsName};
 ghost use Rattle.index.specs.Doors.{Mask};
 ghost use Rattle.rights.specs.Held.{Passes};
-ghost use Rattle.rights.specs.Lookup.{Lets};
+ghost use Rattle.rights.specs.Lookup.{Lent, Lets};
 
 // The rights of the mask that are in the net mask of every F record of a name.
-fn narrowed(block: &[u8], name: usize, mask: u8) -> u8
-    requires { ⌜ Sized (now block) × (Good (now block) × (IsName name × (mask < 2 ^ rightCount))) ⌝ }
+fn narrowed(block: &[u8], directory: &[u16], name: usize, mask: u8) -> u8
+    requires { ⌜ Sized (now block) × (Good (now block) × (Lent (now block) (now directory) × (IsName name × (mask < 2 ^ rightCount)))) ⌝ }
     ensures { λ r. ⌜ Mask r (λ k. Lets (now (block .entry)) name k × In k mask) ⌝ }
 {
-    let records = records_of(block, Kind::Filter, name);
+    let records = records_of(block, directory, Kind::Filter, name);
     let mut i = records.from;
     let mut left = mask;
     while i < records.end {
@@ -28,17 +28,17 @@ fn narrowed(block: &[u8], name: usize, mask: u8) -> u8
 
 // The rights that are in the net mask of every F record of the object and of each group that its M records name: all, if there is
 // no F record. Once none is left, no more groups are looked at.
-pub(crate) fn filter_of(block: &[u8], object: usize) -> u8
-    requires { ⌜ Sized (now block) × (Good (now block) × IsName object) ⌝ }
+pub(crate) fn filter_of(block: &[u8], directory: &[u16], object: usize) -> u8
+    requires { ⌜ Sized (now block) × (Good (now block) × (Lent (now block) (now directory) × IsName object)) ⌝ }
     ensures { λ r. ⌜ Mask r (Passes (now (block .entry)) object) ⌝ }
 {
-    let mut left = narrowed(block, object, ALL);
-    let groups = records_of(block, Kind::Membership, object);
+    let mut left = narrowed(block, directory, object, ALL);
+    let groups = records_of(block, directory, Kind::Membership, object);
     for i in groups.from..groups.end {
         if left == 0 {
             break;
         }
-        left = narrowed(block, index::pair_of(block, i) / WIDE, left);
+        left = narrowed(block, directory, index::pair_of(block, i) / WIDE, left);
     }
     left
 }

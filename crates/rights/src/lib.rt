@@ -7,6 +7,8 @@ mod questions;
 mod walk;
 
 pub use crate::questions::may;
+pub use crate::questions::may_by;
+pub use crate::questions::rights_by;
 pub use crate::questions::rights_of;
 
 // A chain has at most so many records.

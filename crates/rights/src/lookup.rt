@@ -1,41 +1,16 @@
 // Where the records of a name are.
 
+use directory::Span;
 use index::Kind;
+use index::WIDE;
 ghost use Prim.Native.Nat.{_<_, _≤_};
 ghost use mathlib.Core.Path.{_≡_};
-ghost use Rattle.index.specs.Block.{IsName, from, records, Sized, Good};
-ghost use Rattle.rights.specs.Lookup.{wide, PartOf, KeyBefore, StartsAt, Keyed};
-
-// Numbers that follow each other: the first, and the one after the last.
-pub struct Span {
-    pub from: usize,
-    pub end: usize,
-}
-
-// Keys and ids are numbers below this one. As a pair they are the key, plus this many times the id.
-pub(crate) const WIDE: usize = 65536;
+ghost use Rattle.index.specs.Block.{IsName, records, Sized, Good};
+ghost use Rattle.directory.specs.Directory.{StartsAt};
+ghost use Rattle.rights.specs.Lookup.{wide, Lent, KeyBefore, Keyed};
 
 // No part has more records than this.
 const MOST: usize = 2048;
-
-// The numbers of the records of the kind.
-pub(crate) fn part_of(block: &[u8], kind: Kind) -> Span
-    ensures { λ r. ⌜ PartOf (now (block .entry)) kind r ⌝ }
-{
-    let m = index::size_of(block, Kind::Membership) as usize;
-    let p = index::size_of(block, Kind::Permission) as usize;
-    match kind {
-        Kind::Membership => Span { from: 0, end: m },
-        Kind::Permission => Span {
-            from: m,
-            end: m + p,
-        },
-        Kind::Filter => Span {
-            from: m + p,
-            end: m + p + (index::size_of(block, Kind::Filter) as usize),
-        },
-    }
-}
 
 // The key of record i, if it is before `end`, or else a number that is below no name.
 fn key_before(block: &[u8], i: usize, end: usize) -> usize
@@ -59,11 +34,11 @@ fn taken(step: usize, key: usize, name: usize) -> usize
 
 // The number of the first record of the kind whose key is not below the name. In the loop every record before `low` has a key below it, and
 // none after the window that begins at `low` has.
-pub(crate) fn lowest(block: &[u8], kind: Kind, name: usize) -> usize
+fn lowest(block: &[u8], kind: Kind, name: usize) -> usize
     requires { ⌜ Sized (now block) × (Good (now block) × IsName name) ⌝ }
     ensures { λ r. ⌜ StartsAt (now (block .entry)) kind name r ⌝ }
 {
-    let part = part_of(block, kind);
+    let part = directory::part_of(block, kind);
     let mut low = part.from;
     let mut window = MOST;
     while window > 1 {
@@ -74,13 +49,30 @@ pub(crate) fn lowest(block: &[u8], kind: Kind, name: usize) -> usize
     low + taken(1, key_before(block, low, part.end), name)
 }
 
+// The same, by the directory if one is lent, or else by that search.
+pub(crate) fn first_of(block: &[u8], directory: &[u16], kind: Kind, name: usize) -> usize
+    requires { ⌜ Sized (now block) × (Good (now block) × (Lent (now block) (now directory) × IsName name)) ⌝ }
+    ensures { λ r. ⌜ StartsAt (now (block .entry)) kind name r ⌝ }
+{
+    if directory.len() > 0 {
+        return directory::record_by(directory, kind, name as u16);
+    }
+    lowest(block, kind, name)
+}
+
 // The records of the kind whose key is the name.
-pub(crate) fn records_of(block: &[u8], kind: Kind, name: usize) -> Span
-    requires { ⌜ Sized (now block) × (Good (now block) × IsName name) ⌝ }
+pub(crate) fn records_of(block: &[u8], directory: &[u16], kind: Kind, name: usize) -> Span
+    requires { ⌜ Sized (now block) × (Good (now block) × (Lent (now block) (now directory) × IsName name)) ⌝ }
     ensures { λ r. ⌜ Keyed (now (block .entry)) kind name r ⌝ }
 {
-    let part = part_of(block, kind);
-    let from = lowest(block, kind, name);
+    let from = first_of(block, directory, kind, name);
+    if directory.len() > 0 {
+        return Span {
+            from,
+            end: directory::record_by(directory, kind, (name + 1) as u16),
+        };
+    }
+    let part = directory::part_of(block, kind);
     let mut end = from;
     while end < part.end {
         if index::pair_of(block, end) % WIDE != name {

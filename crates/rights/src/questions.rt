@@ -1,4 +1,4 @@
-// The two questions.
+// The two questions, by a directory and without one.
 
 use crate::Answer;
 use crate::Rights;
@@ -6,21 +6,19 @@ use crate::filter::filter_of;
 use crate::grants::granted;
 use index::ALL;
 ghost use Rattle.index.specs.Numbers.{Answers};
-ghost use Rattle.rights.specs.Questions.{questionNeeds, Asks, AsksAll};
+ghost use Rattle.index.specs.Block.{Sized, Good};
+ghost use Rattle.rights.specs.Lookup.{Lent};
+ghost use Rattle.rights.specs.Questions.{askNeeds, Asks, AsksAll, AsksBy, AsksAllBy};
 
 // The greatest name, and the greatest request, which is for all four rights.
 const LAST_NAME: u64 = index::GREATEST_NAME as u64;
 
 const ALL_RIGHTS: u64 = ALL as u64;
 
-// The number of the first requirement of a question that does not hold, or 0.
-fn refusal(block: &[u8], user: u64, object: u64, request: u64) -> u8
-    ensures { λ r. ⌜ Answers (questionNeeds (now (block .entry)) user object request) r ⌝ }
+// The number of the first requirement of a question, after those of the block, that does not hold, or 0.
+fn refusal(user: u64, object: u64, request: u64) -> u8
+    ensures { λ r. ⌜ Answers (askNeeds user object request) r ⌝ }
 {
-    let number = index::tested(block);
-    if number != 0 {
-        return number;
-    }
     if user > LAST_NAME {
         return 4;
     }
@@ -36,35 +34,83 @@ fn refusal(block: &[u8], user: u64, object: u64, request: u64) -> u8
     0
 }
 
+// The full question to a good block, by the directory if one is lent.
+fn held(block: &[u8], directory: &[u16], user: u64, object: u64, request: u64) -> Rights
+    requires { ⌜ Sized (now block) × (Good (now block) × Lent (now block) (now directory)) ⌝ }
+    ensures { λ r. ⌜ Asks (now (block .entry)) user object request r ⌝ }
+{
+    let number = refusal(user, object, request);
+    if number != 0 {
+        return Rights::Refused(number);
+    }
+    let wanted = filter_of(block, directory, object as usize) & (request as u8);
+    let reach = granted(block, directory, user as usize, object as usize, wanted);
+    Rights::Held(reach.rights, reach.user, reach.object)
+}
+
+// The short question to a good block, by the directory if one is lent.
+fn all_held(block: &[u8], directory: &[u16], user: u64, object: u64, request: u64) -> Answer
+    requires { ⌜ Sized (now block) × (Good (now block) × Lent (now block) (now directory)) ⌝ }
+    ensures { λ r. ⌜ AsksAll (now (block .entry)) user object request r ⌝ }
+{
+    let number = refusal(user, object, request);
+    if number != 0 {
+        return Answer::Refused(number);
+    }
+    let wanted = request as u8;
+    if filter_of(block, directory, object as usize) & wanted != wanted {
+        return Answer::No;
+    }
+    let reach = granted(block, directory, user as usize, object as usize, wanted);
+    if reach.rights == wanted {
+        return Answer::Yes;
+    }
+    Answer::No
+}
+
 // The full question: the rights that the user holds on the object, limited to those requested, and the number of M records examined
 // on each side.
 pub fn rights_of(block: &[u8], user: u64, object: u64, request: u64) -> Rights
     ensures { λ r. ⌜ Asks (now (block .entry)) user object request r ⌝ }
 {
-    let number = refusal(block, user, object, request);
+    let number = index::tested(block);
     if number != 0 {
         return Rights::Refused(number);
     }
-    let wanted = filter_of(block, object as usize) & (request as u8);
-    let reach = granted(block, user as usize, object as usize, wanted);
-    Rights::Held(reach.rights, reach.user, reach.object)
+    let none = [0u16; 0];
+    held(block, &none, user, object, request)
+}
+
+// The full question by the block's directory.
+pub fn rights_by(block: &[u8], directory: &[u16], user: u64, object: u64, request: u64) -> Rights
+    ensures { λ r. ⌜ AsksBy (now (block .entry)) (now (directory .entry)) user object request r ⌝ }
+{
+    let number = directory::tested_by(block, directory);
+    if number != 0 {
+        return Rights::Refused(number);
+    }
+    held(block, directory, user, object, request)
 }
 
 // The short question: whether the user holds every requested right on the object.
 pub fn may(block: &[u8], user: u64, object: u64, request: u64) -> Answer
     ensures { λ r. ⌜ AsksAll (now (block .entry)) user object request r ⌝ }
 {
-    let number = refusal(block, user, object, request);
+    let number = index::tested(block);
     if number != 0 {
         return Answer::Refused(number);
     }
-    let wanted = request as u8;
-    if filter_of(block, object as usize) & wanted != wanted {
-        return Answer::No;
+    let none = [0u16; 0];
+    all_held(block, &none, user, object, request)
+}
+
+// The short question by the block's directory.
+pub fn may_by(block: &[u8], directory: &[u16], user: u64, object: u64, request: u64) -> Answer
+    ensures { λ r. ⌜ AsksAllBy (now (block .entry)) (now (directory .entry)) user object request r ⌝ }
+{
+    let number = directory::tested_by(block, directory);
+    if number != 0 {
+        return Answer::Refused(number);
     }
-    let reach = granted(block, user as usize, object as usize, wanted);
-    if reach.rights == wanted {
-        return Answer::Yes;
-    }
-    Answer::No
+    all_held(block, directory, user, object, request)
 }

@@ -1,25 +1,90 @@
 -- 01, "Five empty programs have to be turned away": no program that meets the promises is one of them.
-use Prim.Native.Nat.{ℕ, _≤_}
+use Prim.Native.Nat.{ℕ, _+_, _≤_}
 use mathlib.Core.Path.{_≡_, refl, sym, ap, subst, _∙_}
 use mathlib.Core.List.{List, [], _∷_}
 use native.Mathlib.Omega.{arith}
-use lib.ListN.{length, getD}
+use lib.ListN.{length, getD, replicate, length-replicate, getD-replicate}
 use Rattle.index.specs.declared.Kind.{Kind}
-use Rattle.index.specs.declared.Kind.the-variants.{Permission}
+use Rattle.index.specs.declared.Kind.the-variants.{Membership, Permission}
 use Rattle.index.specs.Letters.{lettersOf}
-use Rattle.index.specs.Block.{number, Sized, countAt, count}
+use Rattle.index.specs.Block.{number, Sized, Good, countAt, count}
 use Rattle.index.specs.Message.{IsKind, kindOf, kindNumber, flags, halfAt, previous, new, moves}
-use Rattle.index.specs.Calls.{Makes}
+use Rattle.index.specs.Calls.{blockNeeds, Makes, ReadsSet}
 use Rattle.index.specs.History.{left, others, after, movesOf, tally}
+use Rattle.index.proofs.Firsts.{first-passed, first-sure}
 use Rattle.index.proofs.GoodTest.{good-test}
+use Rattle.directory.specs.Directory.{directoryLength, partStart, Begins, Own}
+use Rattle.directory.specs.By.{directoryNeeds, makingNeeds, MakesDirectory, By, KeptBy, MessageBy, ReadBy, WriteBy}
+use Rattle.directory.proofs.DirectoryOf.{has-own}
+use Rattle.directory.proofs.Keeping.{Left, Valued}
+use Rattle.directory.proofs.KeptTrue.{message-by-true}
+use Rattle.rights.specs.Questions.{unreported, FullBy, ShortBy}
 use Rattle.tight.specs.Blocks.{zeros, nothing, reads, give}
 use Rattle.tight.specs.Examples.{ring, twoRecords, twoText}
-use Rattle.tight.specs.Programs.{Program, Meets, RefusesEverything, AnswersTheSame, ChangesNothing, OnlyTheFirst, Handed, MakesUpCounts}
+use Rattle.tight.specs.Programs.{Program, Meets, RefusesEverything, AnswersTheSame, ChangesNothing, LeavesBehind, TakesAny, OnlyTheFirst, Handed, MakesUpCounts}
 use Rattle.tight.proofs.Programs as does
+use Rattle.tight.proofs.ByDirectory.{message-lent, left-good, read-lent, write-lent, full-lent, short-lent, questions-lent, not-lent, made-directory, not-made, fine-nothing, fine-one, two-owns, owned-nine}
 use Rattle.tight.proofs.Demand3.{second-half}
 use Rattle.tight.proofs.Mill.{by, made, first-given, second-given, held-by-one, held-by-none, yes-to-one, no-to-all, count-of-one}
 use Rattle.tight.proofs.Starred.{texts-right, examined-right}
 use Rattle.tight.proofs.TextTest.{emptied}
+
+-- ---- M-106: the examples, by a directory
+
+-- A directory of 3,075 zeros is no block's own, since a part begins at 16 at the least.
+abbrev blank-directory : List ℕ
+blank-directory = replicate directoryLength 0
+
+directory-made : (d : List ℕ) × MakesDirectory nothing blank-directory (0, d)
+directory-made = made-directory nothing blank-directory fine-nothing (length-replicate {A = ℕ} directoryLength 0)
+
+made-own : (e d : List ℕ) → MakesDirectory nothing e (0, d) → Own nothing d
+unfolding MakesDirectory makingNeeds blockNeeds
+made-own e d made =
+    first-passed {O = ℕ × List ℕ} (λ n. (n, e)) (λ o. (o .0 ≡ 0) × Own nothing (o .1)) (0, d) (λ o. o .0) (λ n. refl) (makingNeeds nothing e) (omega arith) refl made .1 .1
+
+not-blank : (d : List ℕ) → Own nothing d → d ≡ blank-directory → ⊥
+unfolding Begins partStart
+not-blank d own same =
+    let (i, low, e) = own .each Membership 0 (omega arith) in
+    omega (arith, rw same at e, getD-replicate {A = ℕ} directoryLength (0 + 0) 0 0 (omega arith))
+
+given-by : (d : List ℕ) × (d′ : List ℕ) × MessageBy nothing d give (0, 0, reads 1, d′)
+given-by = message-lent nothing give 0 (reads 1) first-given
+
+given-own : Own nothing (given-by .0)
+unfolding MessageBy KeptBy By directoryNeeds blockNeeds
+given-own =
+    first-passed {O = ℕ × ℕ × List ℕ × List ℕ} (λ n. (n, 0, nothing, given-by .0)) (Left nothing (given-by .0) (Valued nothing give)) (0, 0, reads 1, given-by .1) (λ o. o .0) (λ n. refl) (directoryNeeds nothing (given-by .0)) (omega arith) refl (given-by .2) .0 .1 .1 .0
+
+written-by : (d : List ℕ) × WriteBy twoRecords d 2 7 (zeros 13) (0, 13, twoText)
+written-by = write-lent twoRecords 2 7 (zeros 13) 0 13 twoText (texts-right .0 .0 (zeros 13) (omega arith))
+
+read-by : (d : List ℕ) × (d′ : List ℕ) × ReadBy twoRecords d 2 7 twoText (0, 2, twoRecords, d′)
+read-by = read-lent twoRecords 2 7 twoText 0 2 twoRecords (texts-right .0 .1)
+
+asked-by : (d : List ℕ) × FullBy (reads 1) d 1 9 15 (0, 2, 0, 0) × ShortBy (reads 1) d 1 9 15 (0, 0)
+asked-by = questions-lent (reads 1) 1 9 15 (0, 2, 0, 0) (0, 0) held-by-one no-to-all
+
+none-by : (d : List ℕ) × FullBy nothing d 1 9 15 (0, 0, 0, 0)
+none-by = full-lent nothing 1 9 15 (0, 0, 0, 0) held-by-none
+
+user-by : (d : List ℕ) × FullBy ring d 1 9 15 (0, 0, 20, 0)
+user-by = full-lent ring 1 9 15 (0, 0, 20, 0) (examined-right .0)
+
+object-by : (d : List ℕ) × FullBy ring d 9 1 15 (0, 0, 0, 20)
+object-by = full-lent ring 9 1 15 (0, 0, 0, 20) (examined-right .1 .0)
+
+yes-by : (d : List ℕ) × ShortBy (reads 1) d 1 9 2 (0, 1)
+yes-by = short-lent (reads 1) 1 9 2 (0, 1) yes-to-one
+
+-- By the block's own directory a read is the read without it.
+read-owned : (b d : List ℕ) → Sized b × Good b → Own b d → (kind x : ℕ) (text : List ℕ) (o : ℕ × ℕ × List ℕ × List ℕ) → ReadBy b d kind x text o
+    → ReadsSet b kind x text (o .0, o .1, o .2) × Own (o .2) (o .3)
+unfolding ReadBy KeptBy By directoryNeeds blockNeeds
+read-owned b d fine own kind x text o told =
+    first-sure {O = ℕ × ℕ × List ℕ × List ℕ} (λ n. (n, 0, b, d)) (Left b d (ReadsSet b kind x text)) o (directoryNeeds b d)
+    (fine .0, (fine .1, (own, tt))) told
 
 module _ (p : Program) (meets : Meets p) where
   -- "One that refuses everything": each call accepts something.
@@ -31,6 +96,18 @@ module _ (p : Program) (meets : Meets p) where
   not-refusing (RefusesEverything.reads r) = omega (arith, rw (does.reads p meets (texts-right .0 .1)) at (r twoRecords 2 7 twoText))
   not-refusing (RefusesEverything.full r) = omega (arith, rw (does.answers p meets held-by-none) at (r nothing 1 9 15))
   not-refusing (RefusesEverything.short r) = omega (arith, rw (does.says p meets yes-to-one) at (r (reads 1) 1 9 2))
+  not-refusing (RefusesEverything.directories r) =
+      omega (arith, rw (does.makes-directory p meets (directory-made .1)) at (r nothing blank-directory))
+  not-refusing (RefusesEverything.messages-by r) =
+      omega (arith, rw (does.does-by p meets (given-by .2)) at (r nothing (given-by .0) give))
+  not-refusing (RefusesEverything.writes-by r) =
+      omega (arith, rw (does.writes-by p meets (written-by .1)) at (r twoRecords (written-by .0) 2 7 (zeros 13)))
+  not-refusing (RefusesEverything.reads-by r) =
+      omega (arith, rw (does.reads-by p meets (read-by .2)) at (r twoRecords (read-by .0) 2 7 twoText))
+  not-refusing (RefusesEverything.full-by r) =
+      omega (arith, rw (does.answers-by p meets (asked-by .1)) at (r (reads 1) (asked-by .0) 1 9 15))
+  not-refusing (RefusesEverything.short-by r) =
+      omega (arith, rw (does.says-by p meets (asked-by .2)) at (r (reads 1) (asked-by .0) 1 9 15))
 
   -- "One that grants the same mask always: demand 2's chains." The mask is 0 with no grant and 2 with one; the short answer on
   -- the same block is yes to reading and no to everything. M-109's numbers are 0 on the empty block and 20 on the ring.
@@ -51,6 +128,22 @@ module _ (p : Program) (meets : Meets p) where
       let yes = rw (does.says p meets yes-to-one) at (same (reads 1) 1 9 2) in
       let no = rw (does.says p meets no-to-all) at (same (reads 1) 1 9 15) in
       omega (arith, yes refl, no refl)
+  not-the-same (AnswersTheSame.full-by mask same) =
+      let none = rw (does.answers-by p meets (none-by .1)) at (same nothing (none-by .0) 1 9 15) in
+      let one = rw (does.answers-by p meets (asked-by .1)) at (same (reads 1) (asked-by .0) 1 9 15) in
+      omega (arith, none refl, one refl)
+  not-the-same (AnswersTheSame.user-by n same) =
+      let none = rw (does.answers-by p meets (none-by .1)) at (same nothing (none-by .0) 1 9 15) in
+      let some = rw (does.answers-by p meets (user-by .1)) at (same ring (user-by .0) 1 9 15) in
+      omega (arith, none refl, some refl)
+  not-the-same (AnswersTheSame.object-by n same) =
+      let none = rw (does.answers-by p meets (none-by .1)) at (same nothing (none-by .0) 1 9 15) in
+      let some = rw (does.answers-by p meets (object-by .1)) at (same ring (object-by .0) 9 1 15) in
+      omega (arith, none refl, some refl)
+  not-the-same (AnswersTheSame.short-by answer same) =
+      let yes = rw (does.says-by p meets (yes-by .1)) at (same (reads 1) (yes-by .0) 1 9 2) in
+      let no = rw (does.says-by p meets (asked-by .2)) at (same (reads 1) (asked-by .0) 1 9 15) in
+      omega (arith, yes refl, no refl)
 
   -- "One whose messages change nothing, and one that works at the first message and then only says accepted: demand 2's
   -- steps, message by message." A byte of the header, of the count of R, or of the text tells the two lists apart.
@@ -70,6 +163,56 @@ module _ (p : Program) (meets : Meets p) where
       let none = emptied (reads 1) 2 9 (omega arith, omega arith) (good-test (reads 1) refl) (omega arith, omega arith) (omega arith) _
       (meets .read (reads 1) 2 9 []) 1 1 (omega arith) in
       omega (arith, none, ap (λ (b : List ℕ). count b Permission 9 1 1) (keeps (reads 1) 2 9 []), count-of-one)
+  not-idle (ChangesNothing.directories keeps) =
+      let same : directory-made .0 ≡ blank-directory =
+      rw (does.makes-directory p meets (directory-made .1)) at (keeps nothing blank-directory) in
+      not-blank (directory-made .0) (made-own blank-directory (directory-made .0) (directory-made .1)) same
+  not-idle (ChangesNothing.messages-by keeps) =
+      let same : reads 1 ≡ nothing = rw (does.does-by p meets (given-by .2)) at (keeps nothing (given-by .0) give) in
+      omega (arith, ap (λ (b : List ℕ). getD b 2 0) same)
+  not-idle (ChangesNothing.writes-by keeps) =
+      let same = rw (does.writes-by p meets (written-by .1)) at (keeps twoRecords (written-by .0) 2 7 (zeros 13)) in
+      omega (arith, ap (λ (b : List ℕ). getD b 0 0) same)
+  not-idle (ChangesNothing.reads-by keeps) =
+      let d = has-own (fine-one .1) in
+      let o = p .read-by (reads 1) (d .0) 2 9 [] in
+      let read = read-owned (reads 1) (d .0) fine-one (d .1) 2 9 [] o (meets .read-by (reads 1) (d .0) 2 9 []) in
+      let none = emptied (reads 1) 2 9 (fine-one .0) (fine-one .1) (omega arith, omega arith) (omega arith) (o .0, o .1, o .2) (read .0) 1 1 (omega arith) in
+      omega (arith, none, ap (λ (b : List ℕ). count b Permission 9 1 1) (keeps (reads 1) (d .0) 2 9 []), count-of-one)
+
+  -- M-106: the directory of the block of 36 bytes is another than that of the block with a record in it.
+  pub not-behind : LeavesBehind p → ⊥
+  unfolding IsKind kindOf
+  not-behind (LeavesBehind.messages keeps) =
+      let same : given-by .1 ≡ given-by .0 = rw (does.does-by p meets (given-by .2)) at (keeps nothing (given-by .0) give) in
+      two-owns (given-by .0) given-own (rw same at (message-by-true nothing (given-by .0) (0, 0, reads 1, given-by .1) give refl (given-by .2)))
+  not-behind (LeavesBehind.reads keeps) =
+      let d = has-own (fine-one .1) in
+      let o = p .read-by (reads 1) (d .0) 2 9 [] in
+      let read = read-owned (reads 1) (d .0) fine-one (d .1) 2 9 [] o (meets .read-by (reads 1) (d .0) 2 9 []) in
+      let nine = owned-nine (o .2) (d .0) (left-good (reads 1) 2 9 [] (o .0) (o .1) (o .2) (read .0) (fine-one .1)) (rw (keeps (reads 1) (d .0) 2 9 []) at (read .1)) (d .1) in
+      omega (
+        arith,
+        nine .3,
+        emptied (reads 1) 2 9 (fine-one .0) (fine-one .1) (omega arith, omega arith) (omega arith) (o .0, o .1, o .2) (read .0) (nine .0)
+            (nine .1) (nine .2),
+      )
+
+  -- M-106: a directory of no numbers is no block's own.
+  pub not-any : TakesAny p → ⊥
+  unfolding MessageBy ReadBy WriteBy KeptBy FullBy ShortBy
+  not-any (TakesAny.directories never) =
+      never nothing [] (ap (λ (o : ℕ × List ℕ). o .0) (does.makes-directory p meets (not-made nothing fine-nothing)))
+  not-any (TakesAny.messages never) =
+      never nothing [] give (ap (λ (o : ℕ × ℕ × List ℕ × List ℕ). o .0) (does.does-by p meets (not-lent nothing fine-nothing (λ n. (n, 0, nothing, [])) _)))
+  not-any (TakesAny.writes never) =
+      never nothing [] 2 9 [] (ap (λ (o : ℕ × ℕ × List ℕ). o .0) (does.writes-by p meets (not-lent nothing fine-nothing (λ n. (n, 0, [])) _)))
+  not-any (TakesAny.reads never) =
+      never nothing [] 2 9 [] (ap (λ (o : ℕ × ℕ × List ℕ × List ℕ). o .0) (does.reads-by p meets (not-lent nothing fine-nothing (λ n. (n, 0, nothing, [])) _)))
+  not-any (TakesAny.full never) =
+      never nothing [] 1 9 15 (ap (λ (o : ℕ × ℕ × ℕ × ℕ). o .0) (does.answers-by p meets (not-lent nothing fine-nothing unreported _)))
+  not-any (TakesAny.short never) =
+      never nothing [] 1 9 15 (ap (λ (o : ℕ × ℕ). o .0) (does.says-by p meets (not-lent nothing fine-nothing (λ n. (n, 0)) _)))
 
   pub not-only-first : OnlyTheFirst p → ⊥
   unfolding number

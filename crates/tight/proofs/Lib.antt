@@ -7,6 +7,7 @@ pub mod NotVacuous
 pub mod FourTimes
 -- What they rest on: one outcome for each promise, and the tests that compute.
 pub mod Programs
+pub mod ByDirectory
 pub mod BlockTest
 pub mod RightsTest
 pub mod TextTest

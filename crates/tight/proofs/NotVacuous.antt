@@ -1,9 +1,10 @@
--- Each number that 01 gives to a call is given for some input.
+-- Each number that 01 or M-106 gives to a call is given for some input.
 use Prim.Native.Nat.{ℕ, _<_}
 use mathlib.Core.Path.{_≡_, refl}
 use mathlib.Core.List.{List, [], _∷_, _++_}
 use mathlib.Core.Logic.{inl, inr}
 use native.Mathlib.Omega.{arith}
+use lib.ListN.{replicate, length-replicate}
 use Rattle.index.specs.declared.Kind.the-variants.{Permission}
 use Rattle.index.specs.Letters.{letters, lettersOf}
 use Rattle.index.specs.Numbers.{Answers, Each}
@@ -15,10 +16,12 @@ use Rattle.index.specs.Calls.{blockNeeds, makeNeeds, messageNeeds, setNeeds, wr
 use Rattle.index.proofs.Firsts.{All, first-all, passed-first, refuses, answers-first, first-passed}
 use Rattle.index.proofs.SetReader.{parse-sound}
 use Rattle.index.proofs.GoodTest.{good-test}
-use Rattle.rights.specs.Questions.{questionNeeds, Full, Short}
+use Rattle.directory.specs.Directory.{directoryLength}
+use Rattle.directory.specs.By.{makingNeeds, MakesDirectory, KeptBy, MessageBy, ReadBy, WriteBy}
+use Rattle.rights.specs.Questions.{questionNeeds, unreported, Full, Short, FullBy, ShortBy}
 use Rattle.tight.specs.Blocks.{zeros, halfBytes, giving, moving, nothing, reads, give, withdraw}
 use Rattle.tight.specs.Examples.{twoRecords}
-use Rattle.tight.specs.EachNumber.{MakeGives, MessageGives, WriteGives, ReadGives, QuestionsGive, makeNumbers, messageNumbers, writeNumbers, readNumbers, questionNumbers, ListGives}
+use Rattle.tight.specs.EachNumber.{MakeGives, MessageGives, WriteGives, ReadGives, QuestionsGive, makeNumbers, messageNumbers, writeNumbers, readNumbers, questionNumbers, ListGives, DirectoryGives, MessageByGives, WriteByGives, ReadByGives, QuestionsByGive, directoryNumbers, byDirectory}
 use Rattle.tight.proofs.Starred.{_and_, texts-right, limits-right}
 use Rattle.tight.proofs.RefusedTest.{refused-test, changeTest, change-test}
 use Rattle.tight.proofs.Mill.{made, first-given, both-withdrawn, held-by-one, no-to-all}
@@ -26,6 +29,7 @@ use mathlib.Core.Bool.{Bool, true, false}
 use Rattle.index.specs.Listed.{packed, kindIn, halfIn, changeIn, changesIn}
 use Rattle.index.proofs.ListTests.{ownNeeds}
 use Rattle.tight.proofs.BlockTest.{blockTest, block-test}
+use Rattle.tight.proofs.ByDirectory.{message-lent, read-lent, write-lent, questions-lent, not-lent, made-directory, not-made, fine-nothing}
 
 -- ---- a requirement that does not hold gives its number
 
@@ -286,3 +290,63 @@ read-numbers =
 pub question-numbers : Each QuestionsGive questionNumbers
 question-numbers =
     (reads 1, 1, 9, 15, (2, 0, 0), 0, held-by-one, no-to-all) and no-bytes .2 and no-header .2 and no-user and no-request and tt
+
+-- ---- M-106: by a directory, each number of the call without it, and 13
+
+module _ (P Q : ℕ → Type 0) (f : (n : ℕ) → P n → Q n) where
+  each-by : (ns : List ℕ) → Each P ns → Each Q ns
+  each-by [] p = tt
+  each-by (n ∷ ns) p = (f n (p .0), each-by ns (p .1))
+
+pub directory-numbers : Each DirectoryGives directoryNumbers
+unfolding MakesDirectory makingNeeds blockNeeds Sized number
+directory-numbers =
+    let blank : List ℕ = replicate directoryLength 0 in
+    let made = made-directory nothing blank fine-nothing (length-replicate {A = ℕ} directoryLength 0) in
+    (nothing, blank, made .0, made .1)
+    and ([], [], [], inl ((λ s. omega (arith, s .0)), refl))
+    and (zeros 16, [], [], inr ((omega arith, omega arith), inl ((λ g. omega (arith, g .m-offset)), refl)))
+    and (nothing, [], [], not-made nothing fine-nothing)
+    and tt
+
+message-by-gives : (n : ℕ) → MessageGives n → MessageByGives n
+message-by-gives n (b, m, b′, told) = let k = message-lent b m n b′ told in (b, k .0, m, b′, k .1, k .2)
+
+pub message-by-numbers : Each MessageByGives (byDirectory messageNumbers)
+unfolding MessageBy KeptBy
+message-by-numbers =
+    (nothing, [], give, nothing, [], not-lent nothing fine-nothing (λ n. (n, 0, nothing, [])) _)
+    and each-by MessageGives MessageByGives message-by-gives messageNumbers message-numbers
+
+write-by-gives : (n : ℕ) → WriteGives n → WriteByGives n
+write-by-gives n (b, kind, x, out, r, told) =
+    let k = write-lent b kind x out n (r .0) (r .1) told in
+    (b, k .0, kind, x, out, r, k .1)
+
+pub write-by-numbers : Each WriteByGives (byDirectory writeNumbers)
+unfolding WriteBy
+write-by-numbers =
+    (nothing, [], 2, 9, [], (0, []), not-lent nothing fine-nothing (λ n. (n, 0, [])) _)
+    and each-by WriteGives WriteByGives write-by-gives writeNumbers write-numbers
+
+read-by-gives : (n : ℕ) → ReadGives n → ReadByGives n
+read-by-gives n (b, kind, x, text, r, told) =
+    let k = read-lent b kind x text n (r .0) (r .1) told in
+    (b, k .0, kind, x, text, r .0, r .1, k .1, k .2)
+
+pub read-by-numbers : Each ReadByGives (byDirectory readNumbers)
+unfolding ReadBy KeptBy
+read-by-numbers =
+    (nothing, [], 2, 9, [], 0, nothing, [], not-lent nothing fine-nothing (λ n. (n, 0, nothing, [])) _)
+    and each-by ReadGives ReadByGives read-by-gives readNumbers read-numbers
+
+questions-by-give : (n : ℕ) → QuestionsGive n → QuestionsByGive n
+questions-by-give n (b, u, o, request, values, answer, full, short) =
+    let k = questions-lent b u o request (n, values .0, values .1, values .2) (n, answer) full short in
+    (b, k .0, u, o, request, values, answer, k .1, k .2)
+
+pub question-by-numbers : Each QuestionsByGive (byDirectory questionNumbers)
+unfolding FullBy ShortBy
+question-by-numbers =
+    (nothing, [], 1, 9, 15, (0, 0, 0), 0, not-lent nothing fine-nothing unreported _, not-lent nothing fine-nothing (λ n. (n, 0)) _)
+    and each-by QuestionsGive QuestionsByGive questions-by-give questionNumbers question-numbers

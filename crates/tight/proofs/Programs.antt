@@ -9,8 +9,11 @@ use Rattle.index.specs.History.Accepted.{nothing, next}
 use Rattle.index.proofs.OneCall.{one-make, one-write, one-read}
 use Rattle.index.proofs.OneMessage.{one-message}
 use Rattle.index.proofs.Unchanged.{message-unchanged}
-use Rattle.rights.specs.Questions.{Full, Short}
+use Rattle.directory.specs.By.{MakesDirectory, MessageBy, ReadBy, WriteBy}
+use Rattle.directory.proofs.OneBy.{one-made, one-message-by, one-read-by, one-write-by}
+use Rattle.rights.specs.Questions.{Full, Short, FullBy, ShortBy}
 use Rattle.rights.proofs.OneAnswer.{one-full, one-short}
+use Rattle.rights.proofs.SameAnswers.{one-full-by, one-short-by}
 use Rattle.tight.specs.Programs.{Program, Meets, run, Handed}
 
 module _ (p : Program) (meets : Meets p) where
@@ -33,6 +36,29 @@ module _ (p : Program) (meets : Meets p) where
 
   pub says : {b : List ℕ} {u o request : ℕ} {a : ℕ × ℕ} → Short b u o request a → p .may b u o request ≡ a
   says {b} {u} {o} {request} {a} h = one-short b u o request (p .may b u o request) a (meets .may b u o request) h
+
+  -- ---- each call by a directory
+
+  pub makes-directory : {b d : List ℕ} {o : ℕ × List ℕ} → MakesDirectory b d o → p .directory b d ≡ o
+  makes-directory {b} {d} {o} h = one-made b d (p .directory b d) o (meets .directory b d) h
+
+  pub does-by : {b d m : List ℕ} {o : ℕ × ℕ × List ℕ × List ℕ} → MessageBy b d m o → p .message-by b d m ≡ o
+  does-by {b} {d} {m} {o} h = one-message-by b d m (p .message-by b d m) o (meets .message-by b d m) h
+
+  pub writes-by : {b d : List ℕ} {kind x : ℕ} {out : List ℕ} {o : ℕ × ℕ × List ℕ} → WriteBy b d kind x out o
+      → p .write-by b d kind x out ≡ o
+  writes-by {b} {d} {kind} {x} {out} {o} h = one-write-by b d kind x out (p .write-by b d kind x out) o (meets .write-by b d kind x out) h
+
+  pub reads-by : {b d : List ℕ} {kind x : ℕ} {text : List ℕ} {o : ℕ × ℕ × List ℕ × List ℕ} → ReadBy b d kind x text o
+      → p .read-by b d kind x text ≡ o
+  reads-by {b} {d} {kind} {x} {text} {o} h = one-read-by b d kind x text (p .read-by b d kind x text) o (meets .read-by b d kind x text) h
+
+  pub answers-by : {b d : List ℕ} {u o request : ℕ} {a : ℕ × ℕ × ℕ × ℕ} → FullBy b d u o request a → p .rights-by b d u o request ≡ a
+  answers-by {b} {d} {u} {o} {request} {a} h =
+      one-full-by b u o request d (p .rights-by b d u o request) a (meets .rights-by b d u o request) h
+
+  pub says-by : {b d : List ℕ} {u o request : ℕ} {a : ℕ × ℕ} → ShortBy b d u o request a → p .may-by b d u o request ≡ a
+  says-by {b} {d} {u} {o} {request} {a} h = one-short-by b u o request d (p .may-by b d u o request) a (meets .may-by b d u o request) h
 
   -- ---- messages one after the other
 

@@ -1,8 +1,9 @@
--- 01, "Numbers a caller can get": which calls give which numbers. A call gives a number when it does so for some input.
+-- 01, "Numbers a caller can get", and M-106: which calls give which numbers. A call gives a number when it does so for some input.
 use Prim.Native.Nat.{ℕ}
 use mathlib.Core.List.{List, [], _∷_}
 use Rattle.index.specs.Calls.{Makes, Message, CarriesOut, WritesSet, ReadsSet}
-use Rattle.rights.specs.Questions.{Full, Short}
+use Rattle.directory.specs.By.{MakesDirectory, MessageBy, ReadBy, WriteBy}
+use Rattle.rights.specs.Questions.{Full, Short, FullBy, ShortBy}
 
 abbrev pub MakeGives : ℕ → Type 0
 MakeGives n = (b : List ℕ) × (b′ : List ℕ) × Makes b (n, b′)
@@ -28,7 +29,32 @@ QuestionsGive n =
     (b : List ℕ) × (u : ℕ) × (o : ℕ) × (request : ℕ) × (values : ℕ × ℕ × ℕ) × (answer : ℕ)
     × Full b u o request (n, values .0, values .1, values .2) × Short b u o request (n, answer)
 
--- Its column "calls", read the other way: the numbers of each call.
+-- ---- M-106: the calls by a directory
+
+abbrev pub DirectoryGives : ℕ → Type 0
+DirectoryGives n = (b : List ℕ) × (d : List ℕ) × (d′ : List ℕ) × MakesDirectory b d (n, d′)
+
+abbrev pub MessageByGives : ℕ → Type 0
+MessageByGives n =
+    (b : List ℕ) × (d : List ℕ) × (m : List ℕ) × (b′ : List ℕ) × (d′ : List ℕ) × MessageBy b d m (n, 0, b′, d′)
+
+abbrev pub WriteByGives : ℕ → Type 0
+WriteByGives n =
+    (b : List ℕ) × (d : List ℕ) × (kind : ℕ) × (x : ℕ) × (out : List ℕ) × (r : ℕ × List ℕ) × WriteBy b d kind x out (n, r .0, r .1)
+
+abbrev pub ReadByGives : ℕ → Type 0
+ReadByGives n =
+    (b : List ℕ) × (d : List ℕ) × (kind : ℕ) × (x : ℕ) × (text : List ℕ) × (v : ℕ) × (b′ : List ℕ) × (d′ : List ℕ)
+    × ReadBy b d kind x text (n, v, b′, d′)
+
+abbrev pub QuestionsByGive : ℕ → Type 0
+QuestionsByGive n =
+    (b : List ℕ) × (d : List ℕ) × (u : ℕ) × (o : ℕ) × (request : ℕ) × (values : ℕ × ℕ × ℕ) × (answer : ℕ)
+    × FullBy b d u o request (n, values .0, values .1, values .2) × ShortBy b d u o request (n, answer)
+
+-- ---- the numbers of each call
+
+-- The column "calls" of 01, read the other way: the numbers of each call.
 abbrev pub makeNumbers : List ℕ
 makeNumbers = 0 ∷ 1 ∷ []
 
@@ -43,3 +69,10 @@ readNumbers = 0 ∷ 1 ∷ 2 ∷ 3 ∷ 4 ∷ 8 ∷ 9 ∷ []
 
 abbrev pub questionNumbers : List ℕ
 questionNumbers = 0 ∷ 1 ∷ 2 ∷ 4 ∷ 5 ∷ []
+
+abbrev pub directoryNumbers : List ℕ
+directoryNumbers = 0 ∷ 1 ∷ 2 ∷ 13 ∷ []
+
+-- M-106: the numbers of the call without a directory, and "13".
+abbrev pub byDirectory : List ℕ → List ℕ
+byDirectory numbers = 13 ∷ numbers

@@ -1,4 +1,5 @@
--- A program for the six calls: any functions at all. It meets the promises when each of its answers does.
+-- A program for the six calls, and for the six that M-106 adds: any functions at all. It meets the promises when each of its answers
+-- does.
 use Prim.Native.Nat.{ℕ, _<_}
 use mathlib.Core.Path.{_≡_}
 use mathlib.Core.List.{List, [], _∷_}
@@ -9,10 +10,12 @@ use Rattle.index.specs.Message.{previous}
 use Rattle.index.specs.Calls.{Makes, Message, WritesSet, ReadsSet}
 use Rattle.index.specs.History.{Labelled, Statement, left, after, tally}
 use Rattle.index.specs.History.Sent.{plain}
-use Rattle.rights.specs.Questions.{Full, Short}
+use Rattle.directory.specs.By.{MakesDirectory, MessageBy, ReadBy, WriteBy}
+use Rattle.rights.specs.Questions.{Full, Short, FullBy, ShortBy}
 
 -- Each call gives the number, the value, if it has one, and the lent bytes then, if it may change any; the full question has three
--- values, the rights and how many M records were examined on the user's side and on the object's.
+-- values, the rights and how many M records were examined on the user's side and on the object's. (A message by a directory
+-- has the value 0, since it shares its promise with a read.)
 pub record Program : Type 0 where
   pub make : (block : List ℕ) → ℕ × List ℕ
   pub message : (block message : List ℕ) → ℕ × List ℕ
@@ -20,6 +23,12 @@ pub record Program : Type 0 where
   pub read : (block : List ℕ) (kind key : ℕ) (text : List ℕ) → ℕ × ℕ × List ℕ
   pub rights : (block : List ℕ) (user object request : ℕ) → ℕ × ℕ × ℕ × ℕ
   pub may : (block : List ℕ) (user object request : ℕ) → ℕ × ℕ
+  pub directory : (block directory : List ℕ) → ℕ × List ℕ
+  pub message-by : (block directory message : List ℕ) → ℕ × ℕ × List ℕ × List ℕ
+  pub write-by : (block directory : List ℕ) (kind key : ℕ) (out : List ℕ) → ℕ × ℕ × List ℕ
+  pub read-by : (block directory : List ℕ) (kind key : ℕ) (text : List ℕ) → ℕ × ℕ × List ℕ × List ℕ
+  pub rights-by : (block directory : List ℕ) (user object request : ℕ) → ℕ × ℕ × ℕ × ℕ
+  pub may-by : (block directory : List ℕ) (user object request : ℕ) → ℕ × ℕ
 
 pub record Meets (p : Program) : Type 0 where
   pub make : (b : List ℕ) → Makes b (p .make b)
@@ -28,6 +37,12 @@ pub record Meets (p : Program) : Type 0 where
   pub read : (b : List ℕ) (kind x : ℕ) (text : List ℕ) → ReadsSet b kind x text (p .read b kind x text)
   pub rights : (b : List ℕ) (u o request : ℕ) → Full b u o request (p .rights b u o request)
   pub may : (b : List ℕ) (u o request : ℕ) → Short b u o request (p .may b u o request)
+  pub directory : (b d : List ℕ) → MakesDirectory b d (p .directory b d)
+  pub message-by : (b d m : List ℕ) → MessageBy b d m (p .message-by b d m)
+  pub write-by : (b d : List ℕ) (kind x : ℕ) (out : List ℕ) → WriteBy b d kind x out (p .write-by b d kind x out)
+  pub read-by : (b d : List ℕ) (kind x : ℕ) (text : List ℕ) → ReadBy b d kind x text (p .read-by b d kind x text)
+  pub rights-by : (b d : List ℕ) (u o request : ℕ) → FullBy b d u o request (p .rights-by b d u o request)
+  pub may-by : (b d : List ℕ) (u o request : ℕ) → ShortBy b d u o request (p .may-by b d u o request)
 
 -- The block after the program has had the messages, one after the other.
 abbrev pub run : Program → List ℕ → List (List ℕ) → List ℕ
@@ -44,6 +59,12 @@ pub data RefusesEverything (p : Program) : Type 0 where
   reads : ((b : List ℕ) (kind x : ℕ) (text : List ℕ) → 0 < p .read b kind x text .0) → RefusesEverything p
   full : ((b : List ℕ) (u o request : ℕ) → 0 < p .rights b u o request .0) → RefusesEverything p
   short : ((b : List ℕ) (u o request : ℕ) → 0 < p .may b u o request .0) → RefusesEverything p
+  directories : ((b d : List ℕ) → 0 < p .directory b d .0) → RefusesEverything p
+  messages-by : ((b d m : List ℕ) → 0 < p .message-by b d m .0) → RefusesEverything p
+  writes-by : ((b d : List ℕ) (kind x : ℕ) (out : List ℕ) → 0 < p .write-by b d kind x out .0) → RefusesEverything p
+  reads-by : ((b d : List ℕ) (kind x : ℕ) (text : List ℕ) → 0 < p .read-by b d kind x text .0) → RefusesEverything p
+  full-by : ((b d : List ℕ) (u o request : ℕ) → 0 < p .rights-by b d u o request .0) → RefusesEverything p
+  short-by : ((b d : List ℕ) (u o request : ℕ) → 0 < p .may-by b d u o request .0) → RefusesEverything p
 
 -- "One that grants the same mask always", or gives the same answer to each short question that it accepts, or reports the same
 -- number of records examined on one of the sides.
@@ -56,6 +77,18 @@ pub data AnswersTheSame (p : Program) : Type 0 where
       → AnswersTheSame p
   short : (answer : ℕ) → ((b : List ℕ) (u o request : ℕ) → p .may b u o request .0 ≡ 0 → p .may b u o request .1 ≡ answer)
       → AnswersTheSame p
+  full-by : (mask : ℕ)
+      → ((b d : List ℕ) (u o request : ℕ) → p .rights-by b d u o request .0 ≡ 0 → p .rights-by b d u o request .1 ≡ mask)
+      → AnswersTheSame p
+  user-by : (n : ℕ)
+      → ((b d : List ℕ) (u o request : ℕ) → p .rights-by b d u o request .0 ≡ 0 → p .rights-by b d u o request .2 ≡ n)
+      → AnswersTheSame p
+  object-by : (n : ℕ)
+      → ((b d : List ℕ) (u o request : ℕ) → p .rights-by b d u o request .0 ≡ 0 → p .rights-by b d u o request .3 ≡ n)
+      → AnswersTheSame p
+  short-by : (answer : ℕ)
+      → ((b d : List ℕ) (u o request : ℕ) → p .may-by b d u o request .0 ≡ 0 → p .may-by b d u o request .1 ≡ answer)
+      → AnswersTheSame p
 
 -- "One whose messages change nothing", or some other call that is to write lent bytes and never does.
 pub data ChangesNothing (p : Program) : Type 0 where
@@ -63,6 +96,24 @@ pub data ChangesNothing (p : Program) : Type 0 where
   messages : ((b m : List ℕ) → p .message b m .1 ≡ b) → ChangesNothing p
   writes : ((b : List ℕ) (kind x : ℕ) (out : List ℕ) → p .write b kind x out .2 ≡ out) → ChangesNothing p
   reads : ((b : List ℕ) (kind x : ℕ) (text : List ℕ) → p .read b kind x text .2 ≡ b) → ChangesNothing p
+  directories : ((b d : List ℕ) → p .directory b d .1 ≡ d) → ChangesNothing p
+  messages-by : ((b d m : List ℕ) → p .message-by b d m .2 ≡ b) → ChangesNothing p
+  writes-by : ((b d : List ℕ) (kind x : ℕ) (out : List ℕ) → p .write-by b d kind x out .2 ≡ out) → ChangesNothing p
+  reads-by : ((b d : List ℕ) (kind x : ℕ) (text : List ℕ) → p .read-by b d kind x text .2 ≡ b) → ChangesNothing p
+
+-- M-106: "A message or a read keeps the directory true": one that leaves it as it was.
+pub data LeavesBehind (p : Program) : Type 0 where
+  messages : ((b d m : List ℕ) → p .message-by b d m .3 ≡ d) → LeavesBehind p
+  reads : ((b d : List ℕ) (kind x : ℕ) (text : List ℕ) → p .read-by b d kind x text .3 ≡ d) → LeavesBehind p
+
+-- M-106: "13": one that takes any directory, in some call.
+pub data TakesAny (p : Program) : Type 0 where
+  directories : ((b d : List ℕ) → p .directory b d .0 ≡ 13 → ⊥) → TakesAny p
+  messages : ((b d m : List ℕ) → p .message-by b d m .0 ≡ 13 → ⊥) → TakesAny p
+  writes : ((b d : List ℕ) (kind x : ℕ) (out : List ℕ) → p .write-by b d kind x out .0 ≡ 13 → ⊥) → TakesAny p
+  reads : ((b d : List ℕ) (kind x : ℕ) (text : List ℕ) → p .read-by b d kind x text .0 ≡ 13 → ⊥) → TakesAny p
+  full : ((b d : List ℕ) (u o request : ℕ) → p .rights-by b d u o request .0 ≡ 13 → ⊥) → TakesAny p
+  short : ((b d : List ℕ) (u o request : ℕ) → p .may-by b d u o request .0 ≡ 13 → ⊥) → TakesAny p
 
 -- "one that works at the first message and then only says accepted": a block with a record in it is past its first message.
 abbrev pub OnlyTheFirst : Program → Type 0

@@ -11,18 +11,18 @@ use Rattle.index.proofs.Masks.{in-all, mask-map}
 use Rattle.index.proofs.Records.{of-records}
 use Rattle.rights.specs.Held.{Passes}
 use Rattle.rights.specs.Lookup.{Lets}
-use Rattle.rights.proofs.ByNumber.{id-name, pair-id}
+use Rattle.directory.proofs.Numbered.{id-name, pair-id}
 use Rattle.rights.proofs.Filters.{passes}
 use Rattle.rights.proofs.Sifting.{Sifted, sifted-none, sifted-more, sifted-all}
 use Rattle.rights.proofs.filter.filter_of.Statement.{statement}
 use Rattle.rights.proofs.filter.filter_of.Tie as tie
 
 abbrev Inv-loop : tie.InvT-loop
-Inv-loop block object left₀ i₀ i-end left i =
+Inv-loop block directory object left₀ i₀ i-end left i =
     Sifted block Membership object (λ j. Lets block (id block j)) (Lets block object) i₀ i left
 
 abbrev μ-loop : tie.MeasureT-loop
-μ-loop block object left₀ i₀ i-end left i = i-end - i
+μ-loop block directory object left₀ i₀ i-end left i = i-end - i
 
 loop-holds : tie.Need-loop-holds Inv-loop μ-loop
 loop-holds c =
@@ -31,18 +31,18 @@ loop-holds c =
 
 -- The M record at hand, and its id.
 module _ (c : tie.After-pair-of Inv-loop μ-loop) where
-  good : Good (c .before .before .before .before .before .before .before .args .block .now)
-  good = c .before .before .before .before .before .before .before .pre .1 .0
+  good : Good (c .before .before .before .before .before .before .before .before .args .block .now)
+  good = c .before .before .before .before .before .before .before .before .pre .1 .0
 
-  of : Of (c .before .before .before .before .before .before .before .args .block .now) Membership (c .before .before .before .loop .i)
+  of : Of (c .before .before .before .before .before .before .before .before .args .block .now) Membership (c .before .before .before .loop .i)
   of = c .before .before .before .before .records-of .ensures (c .before .before .before .loop .i) .0 (c .before .before .before .loop .inv .low, c .before .before .loop-test .taken) .0
 
-  is-id : c .pair-of .result / 65536 ≡ id (c .before .before .before .before .before .before .before .args .block .now) (c .before .before .before .loop .i)
+  is-id : c .pair-of .result / 65536 ≡ id (c .before .before .before .before .before .before .before .before .args .block .now) (c .before .before .before .loop .i)
   is-id = pair-id good (of-records Membership _ _ of) (c .pair-of .ensures)
 
 narrowed-requires-2 : tie.Need-narrowed-requires-2 Inv-loop μ-loop
 narrowed-requires-2 c κs =
-    (c .before .before .before .before .before .before .before .pre .0, (good c, (rw (is-id c) (id-name (good c) Membership (of c)), c .before .before .before .loop .inv .rights .0)))
+    (c .before .before .before .before .before .before .before .before .pre .0, (good c, (c .before .before .before .before .before .before .before .before .pre .1 .1 .0, (rw (is-id c) (id-name (good c) Membership (of c)), c .before .before .before .loop .inv .rights .0))))
 
 loop-again : tie.Need-loop-again Inv-loop μ-loop
 loop-again c =
@@ -53,7 +53,7 @@ loop-again c =
 -- The loop is left once all groups were seen, or nothing is left.
 module _ (c : tie.At-loop Inv-loop μ-loop) where
   abbrev start : tie.Start Inv-loop μ-loop
-  start = c .before .before .before .before
+  start = c .before .before .before .before .before
 
   ended : (c .before .records-of .result .end ≤ c .loop .i) ⊎ (c .loop .left ≡ 0) → Mask (c .loop .left) (Passes (start .args .block .now) (start .args .object))
   ended seen =

@@ -5,7 +5,7 @@ use Rattle.index.specs.Letters.{In}
 use Rattle.index.specs.Doors.{NetAt}
 use Rattle.index.proofs.Masks.{in-zero, mask-none, mask-limited}
 use Rattle.index.proofs.Records.{of-records}
-use Rattle.rights.proofs.ByNumber.{has-record}
+use Rattle.directory.proofs.Numbered.{has-record}
 use Rattle.rights.proofs.grants.grant.Statement.{statement}
 use Rattle.rights.proofs.grants.grant.Tie as tie
 

@@ -2,7 +2,7 @@
 use mathlib.Core.Path.{refl}
 use native.Mathlib.Omega.{arith}
 use borrow.Author.Needs.{needs}
-use Rattle.rights.proofs.ByNumber.{pair-key}
+use Rattle.directory.proofs.Numbered.{pair-key}
 use Rattle.rights.proofs.lookup.key_before.Statement.{statement}
 use Rattle.rights.proofs.lookup.key_before.Tie as tie
 

@@ -1,108 +1,14 @@
--- `questions::may` meets its contract: the refusal, the filter, and whether all requested rights are reached.
-use Prim.Native.Nat.{ℕ, _<_}
-use mathlib.Core.Path.{_≡_, refl}
-use mathlib.Core.List.{List}
-use mathlib.Core.Logic.{_↔_}
-use native.Mathlib.Omega.{arith}
+-- `questions::may` meets its contract: the tests of the block, and then the question without a directory.
 use borrow.Author.Needs.{needs}
-use Rattle.index.proofs.Masks.{mask-limited}
-use Rattle.rights.specs.Questions.{HoldsAll, Short, AsksAll}
-use Rattle.rights.proofs.Asking.{Asked, asked, positive, refused, accepts, filtered, covered}
+use Rattle.rights.proofs.AskingBy.{lent-none, asks-all-refused}
 use Rattle.rights.proofs.questions.may.Statement.{statement}
 use Rattle.rights.proofs.questions.may.Tie as tie
 
--- An accepted answer: 1 exactly where every requested right is held.
-abbrev Answered : List ℕ → ℕ → ℕ → ℕ → (ℕ × ℕ) → Type 0
-Answered b u o q a = (a .0 ≡ 0) × (a .1 < 2) × ((a .1 ≡ 1) ↔ HoldsAll b u o q)
-
-yes : (b : List ℕ) (u o q : ℕ) → HoldsAll b u o q → Answered b u o q (0, 1)
-yes b u o q h = (refl, omega arith, ((λ e. h), (λ h. refl)))
-
-no : (b : List ℕ) (u o q : ℕ) → (HoldsAll b u o q → ⊥) → Answered b u o q (0, 0)
-no b u o q f = (refl, omega arith, ((λ e. absurd (omega arith)), (λ h. absurd (f h))))
-
 returns : tie.Need-returns
-unfolding AsksAll Short
-returns c =
-    let start = c .before .before .before in
-    let b = start .args .block .now in
-    let u = start .args .user in
-    let o = start .args .object in
-    let q = start .args .request in
-    let some = positive (c .before .refusal .result) (c .if1 .taken) in
-    (some, refused b u o q (λ n. (n, 0)) (Answered b u o q) (c .before .refusal .result) some (c .before .refusal .ensures))
+returns c = asks-all-refused _ _ _ _ _ (c .if1 .taken) (c .before .tested .ensures)
 
--- All that the question needs holds.
-module _ (c : tie.Else1) where
-  abbrev start : tie.Start
-  start = c .before .before .before
-
-  all : Asked (start .args .block .now) (start .args .user) (start .args .object) (start .args .request)
-  all =
-      asked (start .args .block .now) (start .args .user) (start .args .object) (start .args .request) (c .before .refusal .result)
-      (c .if1 .left) (c .before .refusal .ensures)
-
-cast-wanted : tie.Need-cast-wanted
-cast-wanted c = omega (arith, all c .small)
-
-filter-of-requires : tie.Need-filter-of-requires
-filter-of-requires c κs = (all c .sized, (all c .good, all c .object))
-
-returns-2 : tie.Need-returns-2
-unfolding AsksAll Short
-returns-2 c =
-    let start = c .before .before .before .before .before in
-    let b = start .args .block .now in
-    let u = start .args .user in
-    let o = start .args .object in
-    let q = start .args .request in
-    let a = all (c .before .before) in
-    accepts b u o q (λ n. (n, 0)) (Answered b u o q) (0, 0) a
-    (no b u o q (λ h. c .if2 .taken (filtered b u o q (a .small) (mask-limited (c .before .filter-of .ensures) q) h)))
-
-granted-requires : tie.Need-granted-requires
-granted-requires c κs = let a = all (c .before .before) in ((a .sized, a .good), (a .user, a .object))
-
--- The rights reached are those requested exactly where all are held.
-whole : (c : tie.After-granted)
-    → let args = start (c .before .before .before) .args in
-    (c .granted .result .rights ≡ args .request) ↔ HoldsAll (args .block .now) (args .user) (args .object) (args .request)
-whole c =
-    let at = c .before .before .before in
-    let args = start at .args in
-    covered (args .block .now) (args .user) (args .object) (args .request) (all at .small)
-    (mask-limited (c .before .before .filter-of .ensures) (args .request)) (c .before .if2 .left) (c .granted .ensures .0)
-
-returns-3 : tie.Need-returns-3
-unfolding AsksAll Short
-returns-3 c =
-    let start = c .before .before .before .before .before .before .before .before in
-    let b = start .args .block .now in
-    let u = start .args .user in
-    let o = start .args .object in
-    let q = start .args .request in
-    accepts b u o q (λ n. (n, 0)) (Answered b u o q) (0, 1) (all (c .before .before .before .before .before)) (yes b u o q (whole (c .before .before) .0 (c .if3 .taken)))
-
-returns-4 : tie.Need-returns-4
-unfolding AsksAll Short
-returns-4 c =
-    let start = c .before .before .before .before .before .before .before .before in
-    let b = start .args .block .now in
-    let u = start .args .user in
-    let o = start .args .object in
-    let q = start .args .request in
-    accepts b u o q (λ n. (n, 0)) (Answered b u o q) (0, 0) (all (c .before .before .before .before .before))
-    (no b u o q (λ h. c .if3 .left (whole (c .before .before) .1 h)))
+all-held-requires : tie.Need-all-held-requires
+all-held-requires c κs = lent-none _ (c .before .if1 .left) (c .before .before .tested .ensures)
 
 pub may-spec : {M : Type 1} → statement M
-may-spec =
-    tie.close
-    (tie.spec
-    (λ c κs. search needs)
-    returns
-    cast-wanted
-    filter-of-requires
-    returns-2
-    granted-requires
-    returns-3
-    returns-4)
+may-spec = tie.close (tie.spec (λ c κs. search needs) returns (λ c. search needs) all-held-requires (λ c. search needs))

@@ -1,63 +1,14 @@
--- `questions::rights_of` meets its contract: the refusal, or the rights held and the records examined.
-use mathlib.Core.Path.{refl}
-use native.Mathlib.Omega.{arith}
+-- `questions::rights_of` meets its contract: the tests of the block, and then the question without a directory.
 use borrow.Author.Needs.{needs}
-use Rattle.index.proofs.Masks.{mask-limited}
-use Rattle.rights.specs.Questions.{Reports, unreported, Full, Asks}
-use Rattle.rights.proofs.Asking.{Asked, asked, positive, refused, accepts, limited}
+use Rattle.rights.proofs.AskingBy.{lent-none, asks-refused}
 use Rattle.rights.proofs.questions.rights_of.Statement.{statement}
 use Rattle.rights.proofs.questions.rights_of.Tie as tie
 
 returns : tie.Need-returns
-unfolding Asks Full
-returns c =
-    let start = c .before .before .before in
-    let b = start .args .block .now in
-    let u = start .args .user in
-    let o = start .args .object in
-    let q = start .args .request in
-    let some = positive (c .before .refusal .result) (c .if1 .taken) in
-    (some, refused b u o q unreported (Reports b u o q) (c .before .refusal .result) some (c .before .refusal .ensures))
+returns c = asks-refused _ _ _ _ _ (c .if1 .taken) (c .before .tested .ensures)
 
--- All that the question needs holds.
-module _ (c : tie.Else1) where
-  abbrev start : tie.Start
-  start = c .before .before .before
-
-  all : Asked (start .args .block .now) (start .args .user) (start .args .object) (start .args .request)
-  all =
-      asked (start .args .block .now) (start .args .user) (start .args .object) (start .args .request) (c .before .refusal .result)
-      (c .if1 .left) (c .before .refusal .ensures)
-
-filter-of-requires : tie.Need-filter-of-requires
-filter-of-requires c κs = (all c .sized, (all c .good, all c .object))
-
-cast-wanted : tie.Need-cast-wanted
-cast-wanted c = omega (arith, all (c .before) .small)
-
-granted-requires : tie.Need-granted-requires
-granted-requires c κs = let a = all (c .before) in ((a .sized, a .good), (a .user, a .object))
-
-returns-2 : tie.Need-returns-2
-unfolding Asks Full
-returns-2 c =
-    let start = c .before .before .before .before .before in
-    let b = start .args .block .now in
-    let u = start .args .user in
-    let o = start .args .object in
-    let q = start .args .request in
-    let reach = c .granted .result in
-    let told = c .granted .ensures in
-    accepts b u o q unreported (Reports b u o q) (0, reach .rights, reach .user, reach .object) (all (c .before .before))
-    (refl, limited b u o q (mask-limited (c .before .filter-of .ensures) q) (told .0), told .1 .0 .sum, told .1 .1 .sum)
+held-requires : tie.Need-held-requires
+held-requires c κs = lent-none _ (c .before .if1 .left) (c .before .before .tested .ensures)
 
 pub rights-of-spec : {M : Type 1} → statement M
-rights-of-spec =
-    tie.close
-    (tie.spec
-    (λ c κs. search needs)
-    returns
-    filter-of-requires
-    cast-wanted
-    granted-requires
-    returns-2)
+rights-of-spec = tie.close (tie.spec (λ c κs. search needs) returns (λ c. search needs) held-requires (λ c. search needs))

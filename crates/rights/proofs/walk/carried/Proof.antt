@@ -7,7 +7,8 @@ use Rattle.index.proofs.Records.{of-records}
 use Rattle.rights.specs.declared.walk.Carry.the-variants.{Rights, Member}
 use Rattle.rights.specs.Held.{Carries}
 use Rattle.rights.specs.Marks.{Carried}
-use Rattle.rights.proofs.ByNumber.{has-record, at-self, is-at, net-at}
+use Rattle.directory.proofs.Numbered.{has-record}
+use Rattle.rights.proofs.ByNumber.{at-self, is-at, net-at}
 use Rattle.rights.proofs.walk.carried.Statement.{statement}
 use Rattle.rights.proofs.walk.carried.Tie as tie
 

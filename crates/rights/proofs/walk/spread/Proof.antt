@@ -14,7 +14,8 @@ use Rattle.index.proofs.Answer.{yes-is, no-is}
 use Rattle.index.proofs.Records.{of-records}
 use Rattle.rights.specs.Examined.{HowMany}
 use Rattle.rights.specs.Fronts.{Rooms, Front, Spread, Through}
-use Rattle.rights.proofs.ByNumber.{few-members, id-name, pair-key, pair-id}
+use Rattle.directory.proofs.Numbered.{id-name, pair-key, pair-id}
+use Rattle.rights.proofs.ByNumber.{few-members}
 use Rattle.rights.proofs.Counting.{at-most}
 use Rattle.rights.proofs.Fronts.{front-few, front-keep, front-push}
 use Rattle.rights.proofs.Looking.{Own, own-none, own-more}

@@ -1,0 +1,38 @@
+-- What an answer of the libraries below stands for is what C gets.
+use Prim.Native.Nat.{ℕ}
+use mathlib.Core.Path.{refl}
+use native.Mathlib.Omega.{arith}
+use Rattle.index.specs.declared.Wrote.{Wrote}
+use Rattle.index.specs.declared.Wrote.the-variants as wrote
+use Rattle.index.specs.declared.Took.{Took}
+use Rattle.index.specs.declared.Took.the-variants as took
+use Rattle.index.specs.Calls.{WroteMeans, TookMeans}
+use Rattle.rights.specs.declared.Rights.{Rights}
+use Rattle.rights.specs.declared.Rights.the-variants as rights
+use Rattle.rights.specs.declared.Answer.{Answer}
+use Rattle.rights.specs.declared.Answer.the-variants as answer
+use Rattle.rights.specs.Questions.{RightsMean, AnswerMeans}
+use Rattle.anaqsiro.specs.Returned.{Parts, Returned, InParts}
+use Rattle.anaqsiro.specs.Answered.{RightsAs, AnswerAs, WroteAs, TookAs}
+
+pub rights-returned : (Outcome : ℕ × ℕ × ℕ × ℕ → Type 0) (a : Rights) {r : ℕ} → RightsMean Outcome a → RightsAs a r
+    → Returned (InParts Outcome) r
+rights-returned Outcome (rights.Held m i j) p (v, parts, packed) = (0, v, packed, (m, i, j, parts, p))
+rights-returned Outcome (rights.Refused n) p packed =
+    let none : Parts 0 0 0 0 = record { is = refl; rights-fit = omega arith; user-fits = omega arith } in
+    (n, 0, packed, (0, 0, 0, none, p .1))
+
+pub answer-returned : (Outcome : ℕ × ℕ → Type 0) (a : Answer) {r : ℕ} → AnswerMeans Outcome a → AnswerAs a r
+    → Returned (λ n v. Outcome (n, v)) r
+answer-returned Outcome answer.Yes p packed = (0, 1, packed, p)
+answer-returned Outcome answer.No p packed = (0, 0, packed, p)
+answer-returned Outcome (answer.Refused n) p packed = (n, 0, packed, p .1)
+
+pub wrote-returned : (Outcome : ℕ → ℕ → Type 0) (a : Wrote) {r : ℕ} → WroteMeans Outcome a → WroteAs a r → Returned Outcome r
+wrote-returned Outcome (wrote.Text n) p packed = (0, n, packed, p)
+wrote-returned Outcome (wrote.Refused n) p packed = (n, 0, packed, p .1)
+
+pub took-returned : (Outcome : ℕ → ℕ → Type 0) (a : Took) {r : ℕ} → TookMeans Outcome a → TookAs a r → Returned Outcome r
+took-returned Outcome (took.Set n) p packed = (0, n, packed, p)
+took-returned Outcome (took.Wrong place) p packed = (9, place, packed, p)
+took-returned Outcome (took.Refused n) p packed = (n, 0, packed, p .2)
