@@ -1,5 +1,5 @@
 /* Tests what the header gives beside the calls of the rules, as C99 and as C++11: the helpers, the longest text, the places of
- * wrong texts, the parts of a full question's answer, and the calls that go through a block record by record. */
+ * wrong texts, the parts of a full question's answer, the calls that go through a block record by record, and a directory. */
 #include "anaqsiro.h"
 
 #include <stdio.h>
@@ -58,13 +58,15 @@ static void test_letters(void) {
 /* Each number of the table has words of its own; later ones have none. */
 static void test_refusals(void) {
     same_words("0", anaqsiro_refusal_text(0), "accepted");
-    for (uint64_t number = 0; number <= ANAQSIRO_TEXT_LONG; number++) {
-        same("known", strcmp(anaqsiro_refusal_text(number), "unknown") == 0, 0);
-        for (uint64_t before = 0; before < number; before++) {
+    for (uint64_t number = 0; number <= ANAQSIRO_DIRECTORY_NOT_OWN; number++) {
+        const int known = number <= ANAQSIRO_TEXT_LONG || number == ANAQSIRO_DIRECTORY_NOT_OWN;
+        same("known", strcmp(anaqsiro_refusal_text(number), "unknown") != 0, known);
+        for (uint64_t before = 0; known && before < number; before++) {
             same("own words", strcmp(anaqsiro_refusal_text(number), anaqsiro_refusal_text(before)) == 0, 0);
         }
     }
-    same_words("11", anaqsiro_refusal_text(ANAQSIRO_TEXT_LONG + 1), "unknown");
+    same_words("13", anaqsiro_refusal_text(13), "the lent directory has the wrong length or is not the block's own");
+    same_words("14", anaqsiro_refusal_text(ANAQSIRO_DIRECTORY_NOT_OWN + 1), "unknown");
     same_words("2^32", anaqsiro_refusal_text((uint64_t)1 << 32), "unknown");
 }
 
@@ -178,7 +180,7 @@ static void test_parts(void) {
         }
     }
     same_parts("the greatest", 2147614735u, 15, 8192, 8192);
-    for (uint64_t number = 1; number <= ANAQSIRO_TEXT_LONG; number++) {
+    for (uint64_t number = 1; number <= ANAQSIRO_DIRECTORY_NOT_OWN; number++) {
         same_parts("a refusal", number << 32, 0, 0, 0);
     }
 }
@@ -250,6 +252,168 @@ static void test_records(void) {
     same("record 0 of it", anaqsiro_id(anaqsiro_record(block, sizeof block, 0)), 20);
 }
 
+/* A block with its directory, and a buffer for a text. */
+struct directed {
+    uint8_t block[ANAQSIRO_BLOCK_MIN + ROOM * ANAQSIRO_RECORD];
+    uint8_t out[16];
+    uint16_t directory[ANAQSIRO_DIRECTORY_LENGTH];
+};
+
+/* Three records: two permissions on KEY, and a membership of the greatest name. */
+static void make_directed(struct directed *one) {
+    static const uint8_t two[] = "3;MRU;1023;R", last[] = "3;RU";
+    memset(one->out, '.', sizeof one->out);
+    anaqsiro_make(one->block, sizeof one->block);
+    anaqsiro_read(one->block, sizeof one->block, ANAQSIRO_PERMISSION, KEY, two, sizeof two - 1);
+    anaqsiro_read(one->block, sizeof one->block, ANAQSIRO_MEMBERSHIP, ANAQSIRO_NAMES - 1, last, sizeof last - 1);
+    anaqsiro_directory(one->block, sizeof one->block, one->directory, ANAQSIRO_DIRECTORY_LENGTH);
+}
+
+static const uint8_t set[] = "1;U2;4;P";
+
+/* It stands for no directory at all, so that a null pointer can be lent for one. */
+static uint16_t none[1];
+
+/* The calls on the lengths given, each without a directory where none is lent, and else by it. */
+static uint64_t call_message(struct directed *one, uint16_t *by, size_t len, size_t by_len) {
+    const struct anaqsiro_half taken = {KEY, 3, 7}, given = {KEY + 1, 3, 7};
+    uint8_t message[ANAQSIRO_MESSAGE];
+    anaqsiro_put_message(message, ANAQSIRO_PERMISSION, &taken, &given);
+    return by == none ? anaqsiro_message(one->block, len, message, sizeof message)
+                      : anaqsiro_message_by(one->block, len, by, by_len, message, sizeof message);
+}
+
+static uint64_t call_read(struct directed *one, uint16_t *by, size_t len, size_t by_len) {
+    return by == none ? anaqsiro_read(one->block, len, ANAQSIRO_FILTER, KEY, set, 4)
+                      : anaqsiro_read_by(one->block, len, by, by_len, ANAQSIRO_FILTER, KEY, set, 4);
+}
+
+static uint64_t call_too_much(struct directed *one, uint16_t *by, size_t len, size_t by_len) {
+    return by == none ? anaqsiro_read(one->block, len, ANAQSIRO_MEMBERSHIP, KEY, set, sizeof set - 1)
+                      : anaqsiro_read_by(one->block, len, by, by_len, ANAQSIRO_MEMBERSHIP, KEY, set, sizeof set - 1);
+}
+
+static uint64_t call_wrong_text(struct directed *one, uint16_t *by, size_t len, size_t by_len) {
+    return by == none ? anaqsiro_read(one->block, len, ANAQSIRO_FILTER, KEY, set, 5)
+                      : anaqsiro_read_by(one->block, len, by, by_len, ANAQSIRO_FILTER, KEY, set, 5);
+}
+
+static uint64_t call_write(struct directed *one, uint16_t *by, size_t len, size_t by_len) {
+    return by == none ? anaqsiro_write(one->block, len, ANAQSIRO_PERMISSION, KEY, one->out, sizeof one->out)
+                      : anaqsiro_write_by(one->block, len, by, by_len, ANAQSIRO_PERMISSION, KEY, one->out, sizeof one->out);
+}
+
+static uint64_t call_rights(struct directed *one, uint16_t *by, size_t len, size_t by_len) {
+    return by == none ? anaqsiro_rights(one->block, len, ANAQSIRO_NAMES - 1, KEY, ANAQSIRO_ALL)
+                      : anaqsiro_rights_by(one->block, len, by, by_len, ANAQSIRO_NAMES - 1, KEY, ANAQSIRO_ALL);
+}
+
+static uint64_t call_may(struct directed *one, uint16_t *by, size_t len, size_t by_len) {
+    return by == none ? anaqsiro_may(one->block, len, ANAQSIRO_NAMES - 1, KEY, ANAQSIRO_UPDATE)
+                      : anaqsiro_may_by(one->block, len, by, by_len, ANAQSIRO_NAMES - 1, KEY, ANAQSIRO_UPDATE);
+}
+
+static uint64_t call_no_name(struct directed *one, uint16_t *by, size_t len, size_t by_len) {
+    return by == none ? anaqsiro_may(one->block, len, ANAQSIRO_NAMES, KEY, 0)
+                      : anaqsiro_may_by(one->block, len, by, by_len, ANAQSIRO_NAMES, KEY, 0);
+}
+
+/* A call, and what it answers on the block of three records. */
+struct called {
+    const char *what;
+    uint64_t (*call)(struct directed *one, uint16_t *by, size_t len, size_t by_len);
+    uint64_t answer;
+};
+
+static const struct called calls[] = {
+    {"a message", call_message, 0},
+    {"a read", call_read, 1},
+    {"a read without room", call_too_much, (uint64_t)ANAQSIRO_NO_ROOM << 32},
+    {"a wrong text", call_wrong_text, ((uint64_t)ANAQSIRO_TEXT << 32) + 5},
+    {"a write", call_write, 12},
+    {"the full question", call_rights, 6 + 16 * 1},
+    {"the short question", call_may, 1},
+    {"a name above all", call_no_name, (uint64_t)ANAQSIRO_NAME << 32},
+};
+
+enum { HOW_MANY_CALLS = sizeof calls / sizeof *calls };
+
+/* Every call is refused with the number on these lengths, and no lent byte changes. */
+static void all_refused(const char *what, struct directed *one, size_t len, uint16_t *by, size_t by_len, uint32_t number) {
+    const struct directed before = *one;
+    for (size_t i = 0; i < HOW_MANY_CALLS; i++) {
+        same(what, calls[i].call(one, by, len, by_len), (uint64_t)number << 32);
+        same(calls[i].what, memcmp(one, &before, sizeof before) == 0, 1);
+    }
+}
+
+/* The entries of the directory: where the records of each key begin or would, and the end of each part. */
+static void test_directory(void) {
+    struct directed one;
+    make_directed(&one);
+    same("a part", ANAQSIRO_DIRECTORY_PART, 1025);
+    same("a directory", ANAQSIRO_DIRECTORY_LENGTH, 3075);
+    for (size_t x = 0; x < ANAQSIRO_DIRECTORY_PART; x++) {
+        same("memberships", one.directory[x], x < ANAQSIRO_NAMES ? 16 : 36);
+        same("permissions", one.directory[ANAQSIRO_DIRECTORY_PART + x], x <= KEY ? 36 : 76);
+        same("filters", one.directory[2 * ANAQSIRO_DIRECTORY_PART + x], 76);
+    }
+}
+
+/* Each call by the directory answers and leaves the block as the one without it, and leaves the directory that is then made. */
+static void test_by(void) {
+    for (size_t i = 0; i < HOW_MANY_CALLS; i++) {
+        struct directed without, by;
+        make_directed(&without);
+        make_directed(&by);
+        same(calls[i].what, calls[i].call(&without, none, sizeof without.block, 0), calls[i].answer);
+        same(calls[i].what, calls[i].call(&by, by.directory, sizeof by.block, ANAQSIRO_DIRECTORY_LENGTH), calls[i].answer);
+        anaqsiro_directory(without.block, sizeof without.block, without.directory, ANAQSIRO_DIRECTORY_LENGTH);
+        same(calls[i].what, memcmp(&without, &by, sizeof by) == 0, 1);
+    }
+}
+
+/* What is tested before anything else: the block's length, the block, the directory's length, each of its entries. */
+static void test_not_own(void) {
+    struct directed one;
+    uint16_t longer[ANAQSIRO_DIRECTORY_LENGTH + 1] = {0};
+    make_directed(&one);
+    memcpy(longer, one.directory, sizeof one.directory);
+    all_refused("short block", &one, ANAQSIRO_BLOCK_MIN - 1, longer, 0, ANAQSIRO_BLOCK_LENGTH);
+    all_refused("no entries", &one, sizeof one.block, longer, 0, ANAQSIRO_DIRECTORY_NOT_OWN);
+    all_refused("a null pointer", &one, sizeof one.block, NULL, 0, ANAQSIRO_DIRECTORY_NOT_OWN);
+    all_refused("one less", &one, sizeof one.block, longer, ANAQSIRO_DIRECTORY_LENGTH - 1, ANAQSIRO_DIRECTORY_NOT_OWN);
+    all_refused("one more", &one, sizeof one.block, longer, ANAQSIRO_DIRECTORY_LENGTH + 1, ANAQSIRO_DIRECTORY_NOT_OWN);
+    for (size_t at = 0; at < ANAQSIRO_DIRECTORY_LENGTH; at++) {
+        one.directory[at] ^= 4;
+        all_refused("an entry", &one, sizeof one.block, one.directory, ANAQSIRO_DIRECTORY_LENGTH, ANAQSIRO_DIRECTORY_NOT_OWN);
+        one.directory[at] ^= 4;
+    }
+    one.block[6] = 1; /* this number is to be zero */
+    all_refused("not good", &one, sizeof one.block, longer, 0, ANAQSIRO_BLOCK_NOT_GOOD);
+    same("made of it", anaqsiro_number(anaqsiro_directory(one.block, sizeof one.block, NULL, 0)), ANAQSIRO_BLOCK_NOT_GOOD);
+    make_directed(&one);
+    same("no place to make it", anaqsiro_number(anaqsiro_directory(one.block, sizeof one.block, NULL, 0)),
+         ANAQSIRO_DIRECTORY_NOT_OWN);
+}
+
+/* A message without the directory leaves it behind, but one that changes a count alone does not. */
+static void test_left_behind(void) {
+    const struct anaqsiro_half counted = {KEY, 3, 1}, inserted = {KEY, 5, 1};
+    const struct anaqsiro_half *halves[] = {&counted, &inserted};
+    uint8_t message[ANAQSIRO_MESSAGE];
+    struct directed one;
+    make_directed(&one);
+    for (size_t i = 0; i < 2; i++) {
+        anaqsiro_put_message(message, ANAQSIRO_PERMISSION, NULL, halves[i]);
+        same("a plain message", anaqsiro_message(one.block, sizeof one.block, message, sizeof message), 0);
+        same("then by it", anaqsiro_number(call_may(&one, one.directory, sizeof one.block, ANAQSIRO_DIRECTORY_LENGTH)),
+             i == 0 ? ANAQSIRO_ACCEPTED : ANAQSIRO_DIRECTORY_NOT_OWN);
+    }
+    same("made again", anaqsiro_directory(one.block, sizeof one.block, one.directory, ANAQSIRO_DIRECTORY_LENGTH), 0);
+    same("by it again", call_may(&one, one.directory, sizeof one.block, ANAQSIRO_DIRECTORY_LENGTH), 1);
+}
+
 int main(void) {
     test_version();
     test_letters();
@@ -261,6 +425,10 @@ int main(void) {
     test_parts();
     test_examined();
     test_records();
+    test_directory();
+    test_by();
+    test_not_own();
+    test_left_behind();
     printf("include/anaqsiro.h as " LANGUAGE ": %u tests, %u failed\n", tests, failures);
     return failures > 0;
 }

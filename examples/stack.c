@@ -1,7 +1,8 @@
 /* How many bytes of stack each call takes: it is made on a stack of our own that was painted beforehand, and the deepest byte
  * that lost its paint is looked for. The blocks are such that each call goes as deep as it can: a chain of 40 records for the
- * questions, a count of five digits for the text, for the message one that inserts and one that puts a half back. It fails
- * where a call takes more than LIMIT. */
+ * questions, a count of five digits for the text, for the message one that inserts and one that puts a half back. The calls by
+ * a directory are made on the same blocks. It fails where a call takes more than LIMIT, or gives another number than it is to:
+ * a call that is refused too early takes little. */
 #define _GNU_SOURCE
 #include "anaqsiro.h"
 
@@ -17,12 +18,14 @@ enum { KEY = 900, FAR = 1000 };
 
 static uint8_t stack[1u << 18];
 static uint8_t block[ANAQSIRO_BLOCK_MIN + (CHAIN + 3) * ANAQSIRO_RECORD];
+static uint16_t directory[ANAQSIRO_DIRECTORY_LENGTH];
 static uint8_t out[4096];
 static const uint8_t text[] = "1;M65535R2;7;MRUPmrup65535";
 static ucontext_t host, guest;
 static uint64_t answer;
 static uint64_t (*call)(void);
 static size_t depth, deepest;
+static unsigned failures;
 static uint8_t update[ANAQSIRO_MESSAGE];
 
 static void add(uint64_t kind, uint64_t key, uint64_t id, uint64_t mask) {
@@ -46,6 +49,24 @@ static uint64_t call_write(void) { return anaqsiro_write(block, sizeof block, AN
 static uint64_t call_read(void) {
     return anaqsiro_read(block, sizeof block, ANAQSIRO_PERMISSION, KEY, text, sizeof text - 1);
 }
+static uint64_t call_directory(void) { return anaqsiro_directory(block, sizeof block, directory, ANAQSIRO_DIRECTORY_LENGTH); }
+static uint64_t call_message_by(void) {
+    return anaqsiro_message_by(block, sizeof block, directory, ANAQSIRO_DIRECTORY_LENGTH, update, sizeof update);
+}
+static uint64_t call_rights_by(void) {
+    return anaqsiro_rights_by(block, sizeof block, directory, ANAQSIRO_DIRECTORY_LENGTH, 1, 1, ANAQSIRO_ALL);
+}
+static uint64_t call_may_by(void) {
+    return anaqsiro_may_by(block, sizeof block, directory, ANAQSIRO_DIRECTORY_LENGTH, 1, 1, ANAQSIRO_CREATE);
+}
+static uint64_t call_write_by(void) {
+    return anaqsiro_write_by(block, sizeof block, directory, ANAQSIRO_DIRECTORY_LENGTH, ANAQSIRO_PERMISSION, KEY, out,
+                             sizeof out);
+}
+static uint64_t call_read_by(void) {
+    return anaqsiro_read_by(block, sizeof block, directory, ANAQSIRO_DIRECTORY_LENGTH, ANAQSIRO_PERMISSION, KEY, text,
+                            sizeof text - 1);
+}
 static uint64_t call_tested(void) { return anaqsiro_tested(block, sizeof block); }
 static uint64_t call_size(void) { return anaqsiro_size(block, sizeof block, ANAQSIRO_PERMISSION); }
 static uint64_t call_record(void) { return anaqsiro_record(block, sizeof block, CHAIN); }
@@ -62,36 +83,73 @@ static void run(void) {
     depth = (size_t)(here - (const uint8_t *)low);
 }
 
-static void measure(const char *name, uint64_t (*what)(void)) {
+/* A call by its name. */
+struct named {
+    const char *name;
+    uint64_t (*call)(void);
+};
+
+/* Measures a call that is to give the number. */
+static void measure(const struct named *what, uint32_t number) {
     memset(stack, PAINT, sizeof stack);
-    call = what;
+    call = what->call;
     getcontext(&guest);
     guest.uc_stack.ss_sp = stack;
     guest.uc_stack.ss_size = sizeof stack;
     guest.uc_link = &host;
     makecontext(&guest, run, 0);
     swapcontext(&host, &guest);
-    printf("%-16s %6zu bytes of stack (number %u, value %u)\n", name, depth, anaqsiro_number(answer), anaqsiro_value(answer));
+    printf("%-19s %6zu bytes of stack (number %u, value %u)\n", what->name, depth, anaqsiro_number(answer),
+           anaqsiro_value(answer));
     deepest = depth > deepest ? depth : deepest;
+    if (anaqsiro_number(answer) != number) {
+        printf("%s: it is to give the number %u\n", what->name, number);
+        failures++;
+    }
 }
 
-int main(void) {
+/* The calls of the rules on a block that is there, without a directory and by one; the message is the first. */
+enum { CALLS = 5 };
+static const struct named without[CALLS] = {
+    {"anaqsiro_message", call_message}, {"anaqsiro_read", call_read}, {"anaqsiro_write", call_write},
+    {"anaqsiro_rights", call_rights},   {"anaqsiro_may", call_may},
+};
+static const struct named by[CALLS] = {
+    {"anaqsiro_message_by", call_message_by}, {"anaqsiro_read_by", call_read_by}, {"anaqsiro_write_by", call_write_by},
+    {"anaqsiro_rights_by", call_rights_by},   {"anaqsiro_may_by", call_may_by},
+};
+
+/* The other calls, on the block that those leave. */
+static const struct named others[] = {
+    {"anaqsiro_directory", call_directory}, {"anaqsiro_tested", call_tested}, {"anaqsiro_size", call_size},
+    {"anaqsiro_record", call_record},       {"anaqsiro_count", call_count},   {"anaqsiro_make", call_make},
+};
+
+/* Makes the block a chain of records, and its directory. */
+static void make_chain(void) {
     anaqsiro_make(block, sizeof block);
     for (unsigned name = 1; name <= CHAIN; name++) {
         add(ANAQSIRO_MEMBERSHIP, name, name + 1, ANAQSIRO_ALL);
     }
+    call_directory();
+}
+
+/* The first message inserts a record. The last one finds the block full, and puts back what it took. */
+static void measure_rules(const struct named *calls) {
+    make_chain();
     put_update(1, 2, ANAQSIRO_CREATE, FAR);
-    measure("anaqsiro_message", call_message);
-    measure("anaqsiro_read", call_read);
-    measure("anaqsiro_write", call_write);
-    measure("anaqsiro_rights", call_rights);
-    measure("anaqsiro_may", call_may);
-    measure("anaqsiro_tested", call_tested);
-    measure("anaqsiro_size", call_size);
-    measure("anaqsiro_record", call_record);
-    measure("anaqsiro_count", call_count);
+    for (size_t i = 0; i < CALLS; i++) {
+        measure(&calls[i], ANAQSIRO_ACCEPTED);
+    }
     put_update(2, 3, ANAQSIRO_READ, FAR + 1);
-    measure("anaqsiro_message", call_message);
-    measure("anaqsiro_make", call_make);
-    return deepest > LIMIT;
+    measure(&calls[0], ANAQSIRO_NO_ROOM);
+}
+
+int main(void) {
+    measure_rules(without);
+    measure_rules(by);
+    for (size_t i = 0; i < sizeof others / sizeof *others; i++) {
+        measure(&others[i], ANAQSIRO_ACCEPTED);
+    }
+    return deepest > LIMIT || failures > 0;
 }

@@ -4,7 +4,7 @@
  * Every call answers for any bytes of any length and any numbers. It returns one 64-bit number, the refusal's number times
  * 2^32 plus a value; anaqsiro_number and anaqsiro_value take it apart. The number is 0 where the call was accepted. A refused
  * call leaves every lent byte as it was. Its value is 0, but for one: a text that anaqsiro_read refuses with 9 comes back with
- * its place.
+ * its place. What is said here of a call holds of the one by a directory too, whose name ends in _by.
  *
  * - THE VALUE OF anaqsiro_rights IS NOT THE RIGHTS. Up to 0.3 it was. Since 0.4 it has two more numbers in it, and can be above
  *   0 where no right is held: if (anaqsiro_value(anaqsiro_rights(..))) would take that for a yes. Take the rights by
@@ -16,6 +16,9 @@
  *   gives, whose value may be a place.
  * - DENIALS DO NOT REACH ACROSS RECORDS. "No read" takes read out of the one permission record that it stands in; another one
  *   may still give it, to a group of the same user or on a group of the same object.
+ * - A CHANGE WITHOUT THE DIRECTORY LEAVES IT BEHIND. Who keeps one changes the block by anaqsiro_message_by and
+ *   anaqsiro_read_by, or makes it again after other changes. Where such a change left some key more or fewer records than it
+ *   had, calls by the directory are refused with 13 until it is made again.
  *
  * No call keeps anything between calls, allocates, or touches memory other than the bytes it is lent and its own stack. So
  * several threads may call at once, as long as no block or buffer that one of them writes is used by another. Two buffers of
@@ -36,10 +39,10 @@ extern "C" {
 /* The version of this header and its archive. The block's format is part of it: as long as the first two numbers are the same,
  * a block, a message or a text of one version is good for the other and means the same there, and every call is made and
  * answers as before. Where any of this changes, the second number rises; where something is only added, the third. */
-#define ANAQSIRO_VERSION "0.4.0"
+#define ANAQSIRO_VERSION "0.4.1"
 #define ANAQSIRO_VERSION_MAJOR 0
 #define ANAQSIRO_VERSION_MINOR 4
-#define ANAQSIRO_VERSION_PATCH 0
+#define ANAQSIRO_VERSION_PATCH 1
 
 /* ---- numbers of the rules */
 
@@ -79,6 +82,11 @@ extern "C" {
 #define ANAQSIRO_TEXT_MAX \
     (ANAQSIRO_ID_DIGITS + ANAQSIRO_NAMES + (ANAQSIRO_NAMES - 1u) + ANAQSIRO_NAMES * ANAQSIRO_LETTERS * (1u + 5u))
 
+/* A directory has a part for each kind of record, and a part has an entry for each name and one for the end. The entries are
+ * uint16_t, and the length of a directory is how many of them there are, not how many bytes. */
+#define ANAQSIRO_DIRECTORY_PART (ANAQSIRO_NAMES + 1u)
+#define ANAQSIRO_DIRECTORY_LENGTH (3u * ANAQSIRO_DIRECTORY_PART)
+
 /* What a record says. */
 enum anaqsiro_kind {
     ANAQSIRO_MEMBERSHIP = 1, /* the key is a member of the group id */
@@ -115,7 +123,8 @@ enum anaqsiro_number {
     ANAQSIRO_COUNT_FULL = 7,
     ANAQSIRO_NO_ROOM = 8,
     ANAQSIRO_TEXT = 9,
-    ANAQSIRO_TEXT_LONG = 10
+    ANAQSIRO_TEXT_LONG = 10,
+    ANAQSIRO_DIRECTORY_NOT_OWN = 13
 };
 
 /* ---- the calls */
@@ -148,6 +157,49 @@ uint64_t anaqsiro_write(const uint8_t *block, size_t len, uint64_t kind, uint64_
  * for 3;M1, since 3;M10 would do. A desk is shown the text up to the place, and a caret under the next byte: after a line with
  * the text, printf("%*s^\n", (int)place, "") prints the caret. */
 uint64_t anaqsiro_read(uint8_t *block, size_t len, uint64_t kind, uint64_t key, const uint8_t *text, size_t text_len);
+
+/* ---- the calls by a directory
+ *
+ * A directory says where the records of each key begin, so that a question need not search the block for them. Messages and
+ * sets by it search as before: anaqsiro_message_by, anaqsiro_read_by and anaqsiro_write_by test it, and the first two renew it.
+ * The host lends it beside the block: an array of ANAQSIRO_DIRECTORY_LENGTH entries, each a uint16_t, aligned as those are. It
+ * has a part for the memberships, then one for the permissions, then one for the filters. The entry at x of a part is where
+ * that kind's records with the key x begin, or would begin if there were any, in bytes from the front of the block; the last
+ * entry of a part is where that kind's records end.
+ *
+ * - It belongs to one block. The block's own directory is the one that anaqsiro_directory would make of it as it stands.
+ * - Each call by it tests all of it, after the block: one of another length, or with any other entry, is refused with 13. So a
+ *   wrong directory gives no wrong answer.
+ * - anaqsiro_message_by and anaqsiro_read_by change it with the block. The other calls by it only read it.
+ * - A call without it does not know it. After an anaqsiro_make, anaqsiro_message or anaqsiro_read that left some key more or
+ *   fewer records than it had, the directory is no longer the block's own, and calls by it are refused until it is made again.
+ * - No answer needs it. It is for hosts that ask much of large blocks; others do without. */
+
+/* Writes the block's own directory, whatever stood there before. Numbers 0, 1, 2, 13, which is for its length alone. Value 0. */
+uint64_t anaqsiro_directory(const uint8_t *block, size_t len, uint16_t *directory, size_t directory_len);
+
+/* Applies a message as anaqsiro_message does, and makes the directory the changed block's own. Numbers 0, 1, 2, 13, 3 to 8.
+ * Value 0. */
+uint64_t anaqsiro_message_by(uint8_t *block, size_t len, uint16_t *directory, size_t directory_len, const uint8_t *message,
+                             size_t message_len);
+
+/* What anaqsiro_rights answers. Numbers 0, 1, 2, 13, 4, 5. Value: as there, and taken apart in the same way. */
+uint64_t anaqsiro_rights_by(const uint8_t *block, size_t len, const uint16_t *directory, size_t directory_len, uint64_t user,
+                            uint64_t object, uint64_t request);
+
+/* What anaqsiro_may answers. Numbers 0, 1, 2, 13, 4, 5. Value: 1 for yes, 0 for no. */
+uint64_t anaqsiro_may_by(const uint8_t *block, size_t len, const uint16_t *directory, size_t directory_len, uint64_t user,
+                         uint64_t object, uint64_t request);
+
+/* Writes a set as text as anaqsiro_write does, and touches no other byte. Numbers 0, 1, 2, 13, 3, 4, 10. Value: the length of
+ * the text. */
+uint64_t anaqsiro_write_by(const uint8_t *block, size_t len, const uint16_t *directory, size_t directory_len, uint64_t kind,
+                           uint64_t key, uint8_t *out, size_t out_len);
+
+/* Replaces a set by that of a text as anaqsiro_read does, and makes the directory the changed block's own. Numbers 0, 1, 2, 13,
+ * 3, 4, 9, 8. Value: how many records; with 9 the place. */
+uint64_t anaqsiro_read_by(uint8_t *block, size_t len, uint16_t *directory, size_t directory_len, uint64_t kind, uint64_t key,
+                          const uint8_t *text, size_t text_len);
 
 /* ---- a block as it stands, record by record
  *
@@ -208,6 +260,7 @@ static inline const char *anaqsiro_refusal_text(uint64_t number) {
     case ANAQSIRO_NO_ROOM: return "after taking away (or removing the old set), the records do not fit";
     case ANAQSIRO_TEXT: return "not the text of any set of that kind";
     case ANAQSIRO_TEXT_LONG: return "text longer than the output buffer";
+    case ANAQSIRO_DIRECTORY_NOT_OWN: return "the lent directory has the wrong length or is not the block's own";
     default: return "unknown";
     }
 }

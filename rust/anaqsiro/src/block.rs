@@ -1,7 +1,7 @@
 //! The block and its calls.
 
 use crate::letters::LETTERS;
-use crate::refusal::answer;
+use crate::refusal::{done, how_many, yes};
 use crate::{raw, Held, Kind, Name, Refusal, Rights, NAMES};
 use std::fmt;
 
@@ -54,6 +54,11 @@ impl Block {
         &self.bytes
     }
 
+    /// The bytes, to be changed by a call.
+    pub(crate) fn bytes_mut(&mut self) -> &mut [u8] {
+        &mut self.bytes
+    }
+
     /// The bytes.
     pub fn into_bytes(self) -> Vec<u8> {
         self.bytes
@@ -62,7 +67,7 @@ impl Block {
     /// Whether the block is good: refused with [`Refusal::BlockLength`] or [`Refusal::BlockNotGood`] where it is not.
     pub fn check(&self) -> Result<(), Refusal> {
         // SAFETY: the pointer and the length are those of one slice, which the call only reads.
-        answer(unsafe { raw::anaqsiro_tested(self.bytes.as_ptr(), self.bytes.len()) }).map(drop)
+        done(unsafe { raw::anaqsiro_tested(self.bytes.as_ptr(), self.bytes.len()) })
     }
 
     /// How many records the block has room for in all, those that it holds among them; 0 where no block is so long. How many
@@ -100,7 +105,7 @@ impl Block {
     /// Makes the block an empty one, as long as it is.
     pub fn clear(&mut self) -> Result<(), Refusal> {
         // SAFETY: the pointer and the length are those of one slice that is ours for the call.
-        answer(unsafe { raw::anaqsiro_make(self.bytes.as_mut_ptr(), self.bytes.len()) }).map(drop)
+        done(unsafe { raw::anaqsiro_make(self.bytes.as_mut_ptr(), self.bytes.len()) })
     }
 
     /// Applies a message: takes the previous half away, then adds the new one. The block does not know statements; a
@@ -108,8 +113,7 @@ impl Block {
     pub fn apply(&mut self, message: impl AsRef<[u8]>) -> Result<(), Refusal> {
         let message = message.as_ref();
         // SAFETY: each pointer and length are those of one slice; the borrows keep the two apart.
-        answer(unsafe { raw::anaqsiro_message(self.bytes.as_mut_ptr(), self.bytes.len(), message.as_ptr(), message.len()) })
-            .map(drop)
+        done(unsafe { raw::anaqsiro_message(self.bytes.as_mut_ptr(), self.bytes.len(), message.as_ptr(), message.len()) })
     }
 
     /// The rights that the user holds on the object, of those requested, and how many membership records were examined on each
@@ -136,30 +140,19 @@ impl Block {
     /// Whether the user holds every right requested on the object.
     pub fn may(&self, user: Name, object: Name, request: Rights) -> Result<bool, Refusal> {
         // SAFETY: the pointer and the length are those of one slice, which the call only reads.
-        answer(unsafe { raw::anaqsiro_may(self.bytes.as_ptr(), self.bytes.len(), user, object, request.mask().into()) })
-            .map(|yes| yes == 1)
+        yes(unsafe { raw::anaqsiro_may(self.bytes.as_ptr(), self.bytes.len(), user, object, request.mask().into()) })
     }
 
     /// Writes the records of one kind and key as text at the front of `out`, and says how long the text is.
     pub fn write_set(&self, kind: Kind, key: Name, out: &mut [u8]) -> Result<usize, Refusal> {
         let kind = kind.number().into();
         // SAFETY: each pointer and length are those of one slice; the borrows keep the two apart.
-        answer(unsafe { raw::anaqsiro_write(self.bytes.as_ptr(), self.bytes.len(), kind, key, out.as_mut_ptr(), out.len()) })
-            .map(|length| length as usize)
+        how_many(unsafe { raw::anaqsiro_write(self.bytes.as_ptr(), self.bytes.len(), kind, key, out.as_mut_ptr(), out.len()) })
     }
 
     /// The records of one kind and key as text.
     pub fn set_text(&self, kind: Kind, key: Name) -> Result<String, Refusal> {
-        let mut out = vec![0; 64];
-        loop {
-            match self.write_set(kind, key, &mut out) {
-                Err(Refusal::TextLong) if out.len() < Self::LONGEST_TEXT => {
-                    out.resize(Self::LONGEST_TEXT.min(8 * out.len()), 0);
-                }
-                Err(refusal) => return Err(refusal),
-                Ok(length) => return Ok(out[..length].iter().copied().map(char::from).collect()),
-            }
-        }
+        whole_text(|out| self.write_set(kind, key, out))
     }
 
     /// Replaces the records of one kind and key by those of a text, and says how many they are. A text that is of no set of
@@ -180,8 +173,21 @@ impl Block {
     pub fn read_set(&mut self, kind: Kind, key: Name, text: impl AsRef<[u8]>) -> Result<usize, Refusal> {
         let (kind, text) = (kind.number().into(), text.as_ref());
         // SAFETY: each pointer and length are those of one slice; the borrows keep the two apart.
-        answer(unsafe { raw::anaqsiro_read(self.bytes.as_mut_ptr(), self.bytes.len(), kind, key, text.as_ptr(), text.len()) })
-            .map(|records| records as usize)
+        how_many(unsafe { raw::anaqsiro_read(self.bytes.as_mut_ptr(), self.bytes.len(), kind, key, text.as_ptr(), text.len()) })
+    }
+}
+
+/// The text that a call writes, in a buffer that is made longer until the text fits.
+pub(crate) fn whole_text(write: impl Fn(&mut [u8]) -> Result<usize, Refusal>) -> Result<String, Refusal> {
+    let mut out = vec![0; 64];
+    loop {
+        match write(&mut out) {
+            Err(Refusal::TextLong) if out.len() < Block::LONGEST_TEXT => {
+                out.resize(Block::LONGEST_TEXT.min(8 * out.len()), 0);
+            }
+            Err(refusal) => return Err(refusal),
+            Ok(length) => return Ok(out[..length].iter().copied().map(char::from).collect()),
+        }
     }
 }
 

@@ -3,8 +3,8 @@
 use crate::refusal::answer;
 use crate::{Block, Refusal, Rights};
 
-/// What [`Block::rights`] answers: the rights, and the number of membership records examined, one for the user's side and one
-/// for the object's.
+/// What [`Block::rights`] answers, and [`DirectedBlock::rights`](crate::DirectedBlock::rights): the rights, and the number of
+/// membership records examined, one for the user's side and one for the object's.
 ///
 /// A name's mark in round n is the set of rights that some chain of at most n records carries to it; in round 0 the start,
 /// which is the user or the object, has all four, the others none, and before round 0 nobody has any. The number is, summed
@@ -39,9 +39,10 @@ impl Held {
     /// No number of records examined on one side is above this one: four times the greatest room of a block.
     pub const MOST_EXAMINED: u32 = 4 * Block::GREATEST_ROOM as u32;
 
-    /// Takes an answer of [`raw::anaqsiro_rights`](crate::raw::anaqsiro_rights) apart. Its value has the rights in the lowest 4
-    /// bits, the number of the user's side in the next 14, and that of the object's in the last 14. The header has
-    /// `anaqsiro_held`, `anaqsiro_user_examined` and `anaqsiro_object_examined` for this.
+    /// Takes an answer of [`raw::anaqsiro_rights`](crate::raw::anaqsiro_rights) apart, or of
+    /// [`raw::anaqsiro_rights_by`](crate::raw::anaqsiro_rights_by). Its value has the rights in the lowest 4 bits, the number of the
+    /// user's side in the next 14, and that of the object's in the last 14. The header has `anaqsiro_held`,
+    /// `anaqsiro_user_examined` and `anaqsiro_object_examined` for this.
     pub fn from_answer(packed: u64) -> Result<Held, Refusal> {
         let value = answer(packed)?;
         Ok(Held {

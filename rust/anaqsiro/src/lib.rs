@@ -29,6 +29,7 @@
 //! ```
 //!
 //! - [`Block`]: messages, the two questions, sets as text, the records, and saving it with a checksum.
+//! - [`DirectedBlock`]: a block with its directory, where many questions are asked of a large one.
 //! - [`Ledger`]: a block with its statements. Use it where messages may arrive out of order, twice or late, or where nobody
 //!   else keeps what each statement said last.
 //! - [`Rights`] and [`Letters`]: what a question asks for, and what a message gives or denies.
@@ -37,6 +38,7 @@
 //! The answers of the block are those of the archive, which is proved; this crate around it is tested.
 
 mod block;
+mod directed;
 mod held;
 mod ledger;
 mod letters;
@@ -47,6 +49,7 @@ mod refusal;
 mod saved;
 
 pub use block::Block;
+pub use directed::{DirectedBlock, NotDirected};
 pub use held::Held;
 pub use ledger::{Ledger, NotTaken, Said, Statement, Taken, Waiting, Why};
 pub use letters::{Letters, NotLetters, Rights};

@@ -31,6 +31,8 @@ pub enum Refusal {
     },
     /// 10: text longer than the output buffer.
     TextLong,
+    /// 13: the lent directory has the wrong length or is not the block's own.
+    DirectoryNotOwn,
     /// A number that this crate has no name for: the archive is newer than the crate.
     Unknown(u32),
 }
@@ -52,6 +54,7 @@ impl Refusal {
             8 => Refusal::NoRoom,
             9 => Refusal::Text { place: value as usize },
             10 => Refusal::TextLong,
+            13 => Refusal::DirectoryNotOwn,
             _ => Refusal::Unknown(number),
         })
     }
@@ -69,6 +72,7 @@ impl Refusal {
             Refusal::NoRoom => 8,
             Refusal::Text { .. } => 9,
             Refusal::TextLong => 10,
+            Refusal::DirectoryNotOwn => 13,
             Refusal::Unknown(number) => number,
         }
     }
@@ -88,6 +92,7 @@ impl fmt::Display for Refusal {
             Refusal::NoRoom => "after taking away (or removing the old set), the records do not fit",
             Refusal::Text { .. } => "not the text of any set of that kind",
             Refusal::TextLong => "text longer than the output buffer",
+            Refusal::DirectoryNotOwn => "the lent directory has the wrong length or is not the block's own",
             Refusal::Unknown(_) => "not a number of this version",
         };
         write!(f, "refused with {}: {why}", self.number())?;
@@ -106,6 +111,21 @@ pub(crate) fn answer(packed: u64) -> Result<u32, Refusal> {
     Refusal::from_answer(packed).map_or(Ok(packed as u32), Err)
 }
 
+/// An answer without a value.
+pub(crate) fn done(packed: u64) -> Result<(), Refusal> {
+    answer(packed).map(drop)
+}
+
+/// An answer of yes or no.
+pub(crate) fn yes(packed: u64) -> Result<bool, Refusal> {
+    answer(packed).map(|value| value == 1)
+}
+
+/// An answer that is a length, or how many records there are.
+pub(crate) fn how_many(packed: u64) -> Result<usize, Refusal> {
+    answer(packed).map(|value| value as usize)
+}
+
 #[cfg(test)]
 mod tests {
     use super::*;
@@ -119,6 +139,15 @@ mod tests {
         assert_eq!(answer(9 << 32 | 54_184), Err(Refusal::Text { place: 54_184 }));
         assert_eq!(answer(10 << 32), Err(Refusal::TextLong));
         assert_eq!(answer(11 << 32 | 5), Err(Refusal::Unknown(11)));
+        assert_eq!(answer(12 << 32), Err(Refusal::Unknown(12)));
+        assert_eq!(answer(13 << 32), Err(Refusal::DirectoryNotOwn));
         assert_eq!(answer(u64::MAX), Err(Refusal::Unknown(u32::MAX)));
+    }
+
+    #[test]
+    fn an_answer_says_what_it_is_to_say() {
+        assert_eq!((done(0), done(13 << 32)), (Ok(()), Err(Refusal::DirectoryNotOwn)));
+        assert_eq!((yes(0), yes(1), yes(4 << 32)), (Ok(false), Ok(true), Err(Refusal::Name)));
+        assert_eq!((how_many(1_000), how_many(9 << 32 | 3)), (Ok(1_000), Err(Refusal::Text { place: 3 })));
     }
 }

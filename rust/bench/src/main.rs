@@ -1,17 +1,20 @@
 //! Times the library beside the plain program in one run, and prints ratios: bench. ANAQSIRO_NOW and ANAQSIRO_BEFORE name shared
 //! objects of two archives, as `tools/ratios` makes them: the first is then the library, in place of the archive that is linked,
-//! and the second is timed beside it.
+//! and the second is timed beside it. The calls by a directory have tables of their own, in which each stands beside the call
+//! without it.
 //!
 //! Each figure is the median over several rounds of some milliseconds of the processor's time; in a round each program does the
 //! same calls, in turn, on a block that its own calls have made. Buffers are warm: each call works on what the call before left.
 
 use compare::Archive;
-use plain::{Plain, ALL, CHAIN, HEADER, MESSAGE, NAMES, NEW, OLD, ROOM};
+use plain::{Plain, ALL, CHAIN, ENTRIES, HEADER, MESSAGE, NAMES, NEW, OLD, ROOM};
 use second::drive::{Library, TEXT};
 use second::gen::Rng;
 use second::{Index, Part, M};
+use std::collections::BTreeSet;
 use std::env::var;
 use std::ffi::c_int;
+use std::fs;
 use std::hint::black_box;
 use std::ops::Range;
 
@@ -36,6 +39,7 @@ const READ: u8 = 2;
 /// The due list: each of so many people asks for each of so many orders.
 const CALLERS: u64 = 40;
 const ORDERS: u64 = 50;
+const QUESTIONS: usize = (CALLERS * ORDERS) as usize;
 
 /// How many memberships, grants and filters a block has, and how many more it has room for.
 struct Size(usize, usize, usize, usize);
@@ -44,11 +48,70 @@ const SMALL: Size = Size(10, 5, 2, 4);
 const MILL: Size = Size(1258, 200, 40, 20);
 const FULL: Size = Size(1500, 500, 45, 3);
 
-/// A program that is timed, with its block and a buffer for texts.
+/// A program that is timed, with its block, the block's directory if the calls go by it, and a buffer for texts.
 struct Runner<'a> {
     library: &'a dyn Library,
     block: Vec<u8>,
+    directory: Option<Vec<u16>>,
     out: Vec<u8>,
+}
+
+/// The calls, by the directory if there is one.
+impl<'a> Runner<'a> {
+    /// A program whose calls go without a directory.
+    fn without(library: &'a dyn Library, block: Vec<u8>) -> Runner<'a> {
+        Runner { library, block, directory: None, out: vec![0; TEXT] }
+    }
+
+    /// A program whose calls go by the directory, which it makes.
+    fn by(library: &'a dyn Library, block: Vec<u8>) -> Runner<'a> {
+        let mut directory = vec![0; ENTRIES];
+        assert_eq!(library.directory(&block, &mut directory), 0);
+        Runner { directory: Some(directory), ..Runner::without(library, block) }
+    }
+
+    fn message(&mut self, message: &[u8]) -> u64 {
+        match &mut self.directory {
+            Some(directory) => self.library.message_by(&mut self.block, directory, message),
+            None => self.library.message(&mut self.block, message),
+        }
+    }
+
+    fn rights(&self, user: u64, object: u64) -> u64 {
+        match &self.directory {
+            Some(directory) => self.library.rights_by(&self.block, directory, user, object, ALL.into()),
+            None => self.library.rights(&self.block, user, object, ALL.into()),
+        }
+    }
+
+    fn may(&self, user: u64, object: u64) -> u64 {
+        match &self.directory {
+            Some(directory) => self.library.may_by(&self.block, directory, user, object, READ.into()),
+            None => self.library.may(&self.block, user, object, READ.into()),
+        }
+    }
+
+    fn write(&mut self, key: u64) -> u64 {
+        match &self.directory {
+            Some(directory) => self.library.write_by(&self.block, directory, PERMISSION.into(), key, &mut self.out),
+            None => self.library.write(&self.block, PERMISSION.into(), key, &mut self.out),
+        }
+    }
+
+    fn read(&mut self, key: u64, text: &[u8]) -> u64 {
+        match &mut self.directory {
+            Some(directory) => self.library.read_by(&mut self.block, directory, PERMISSION.into(), key, text),
+            None => self.library.read(&mut self.block, PERMISSION.into(), key, text),
+        }
+    }
+
+    /// Makes the directory again. Without one, it only tests the block.
+    fn make_directory(&mut self) -> u64 {
+        match &mut self.directory {
+            Some(directory) => self.library.directory(&self.block, directory),
+            None => self.library.tested(&self.block),
+        }
+    }
 }
 
 fn word(b: &[u8], at: usize) -> usize {
@@ -144,13 +207,13 @@ fn due(n: usize) -> (u64, u64) {
 }
 
 /// How a program is asked about a user and an object.
-type Ask = fn(&dyn Library, &[u8], u64, u64) -> u64;
+type Ask = fn(&Runner, u64, u64) -> u64;
 
-const TEST: (&str, Ask) = ("the test of the block (a question refused with 4)", |library, b, _, object| {
-    library.rights(b, NAMES as u64, object, ALL.into())
-});
-const FULL_QUESTION: (&str, Ask) = ("the full question", |library, b, user, object| library.rights(b, user, object, ALL.into()));
-const SHORT_QUESTION: (&str, Ask) = ("the short question", |library, b, user, object| library.may(b, user, object, READ.into()));
+const TEST: (&str, Ask) =
+    ("the test of the block (a question refused with 4)", |runner, _, object| runner.rights(NAMES as u64, object));
+const BOTH_TESTS: (&str, Ask) = ("the tests of block and directory (a question refused with 4)", TEST.1);
+const FULL_QUESTION: (&str, Ask) = ("the full question", |runner, user, object| runner.rights(user, object));
+const SHORT_QUESTION: (&str, Ask) = ("the short question", |runner, user, object| runner.may(user, object));
 
 /// A time as C has it.
 #[repr(C)]
@@ -207,41 +270,74 @@ fn ratio(rounds: &[Vec<f64>], one: usize, other: usize) -> f64 {
 }
 
 /// The programs that are timed: the library first, then the plain program, then the archive from before, if there is one.
-struct Programs(Vec<Box<dyn Library>>);
+struct Programs {
+    all: Vec<Box<dyn Library>>,
+    /// How many of them, the first ones, have the calls by a directory.
+    directed: usize,
+    /// Whether the calls go by a directory.
+    by: bool,
+}
+
+/// Whether a shared object has the name of a function.
+fn has(path: &str, name: &str) -> bool {
+    let name = [name.as_bytes(), &[0]].concat();
+    fs::read(path).is_ok_and(|bytes| bytes.windows(name.len()).any(|window| window == name))
+}
 
 impl Programs {
     fn new() -> Result<Programs, String> {
         let named = |name: &str| var(name).ok().map(|path| Archive::loaded(&path)).transpose();
         let library = named("ANAQSIRO_NOW")?.unwrap_or_else(Archive::linked);
-        let mut programs: Vec<Box<dyn Library>> = vec![Box::new(library), Box::new(Plain)];
+        let mut all: Vec<Box<dyn Library>> = vec![Box::new(library), Box::new(Plain)];
+        let mut directed = all.len();
         if let Some(before) = named("ANAQSIRO_BEFORE")? {
-            programs.push(Box::new(before));
+            all.push(Box::new(before));
+            directed += usize::from(var("ANAQSIRO_BEFORE").is_ok_and(|path| has(&path, "anaqsiro_directory")));
         }
-        Ok(Programs(programs))
+        Ok(Programs { all, directed, by: false })
     }
 
-    /// Each program with a block of its own, made by the function given.
+    /// Each program with a block of its own, made by the function given. Where the calls go by a directory, the library without
+    /// one is the first.
     fn with(&self, made: impl Fn(&dyn Library) -> Vec<u8>) -> Vec<Runner<'_>> {
-        let all = self.0.iter().map(Box::as_ref);
-        all.map(|library| Runner { library, block: made(library), out: vec![0; TEXT] }).collect()
+        let all = self.all.iter().map(Box::as_ref);
+        if !self.by {
+            return all.map(|library| Runner::without(library, made(library))).collect();
+        }
+        let first = self.all[0].as_ref();
+        let by = all.take(self.directed).map(|library| Runner::by(library, made(library)));
+        [Runner::without(first, made(first))].into_iter().chain(by).collect()
+    }
+
+    /// The ways to ask: one that is refused once the tests are done, and the two questions.
+    fn asks(&self) -> [(&'static str, Ask); 3] {
+        [if self.by { BOTH_TESTS } else { TEST }, FULL_QUESTION, SHORT_QUESTION]
     }
 
     fn title(&self, what: &str) {
-        self.headed(what, &["call", "library / Rust"], &["Rust"]);
+        self.headed(what, "call", &["Rust"]);
     }
 
-    /// A title, and the head of a table with these columns; between them is the one of the archive from before, if there is one.
-    fn headed(&self, what: &str, first: &[&str], last: &[&str]) {
-        let before: &[&str] = if self.0.len() > 2 { &["library / before"] } else { &[] };
-        let columns = [first, before, last].concat();
-        println!("\n{what}\n\n| {} |\n|{}", columns.join(" | "), "---|".repeat(columns.len()));
+    /// A title, and the head of a table with these columns; between them are those of the ratios: to the call without a directory, if
+    /// the calls go by one, to the plain program, and to the archive from before, if there is one that has the calls.
+    fn headed(&self, what: &str, first: &str, last: &[&str]) {
+        let (by, how) = if self.by { (&["by / without"][..], ", by a directory") } else { (&[][..], "") };
+        let known = if self.by { self.directed } else { self.all.len() };
+        let before: &[&str] = if known > 2 { &["library / before"] } else { &[] };
+        let columns = [&[first], by, &["library / Rust"], before, last].concat();
+        println!("\n{what}{how}\n\n| {} |\n|{}", columns.join(" | "), "---|".repeat(columns.len()));
     }
 }
 
-/// The ratios of a line: to the plain program, and to the archive from before, if there is one.
-fn ratios(rounds: &[Vec<f64>]) -> String {
-    let others = 1..rounds[0].len();
-    others.map(|other| format!("{:.2}", ratio(rounds, 0, other))).collect::<Vec<_>>().join(" | ")
+/// Which of the runners the others are compared with: the library, by a directory if there is one. The plain program follows it.
+fn library_of(runners: &[Runner]) -> usize {
+    usize::from(runners[0].directory.is_none() && runners[1].directory.is_some())
+}
+
+/// The ratios of a line: of the library's call to each of the others.
+fn ratios(rounds: &[Vec<f64>], library: usize) -> String {
+    let others = (0..rounds[0].len()).filter(|&other| other != library);
+    others.map(|other| format!("{:.2}", ratio(rounds, library, other))).collect::<Vec<_>>().join(" | ")
 }
 
 /// How long a call takes, in microseconds.
@@ -249,26 +345,27 @@ fn micros(rounds: &[Vec<f64>], call: usize) -> f64 {
     median(rounds.iter().map(|taken| taken[call])) * 1e6
 }
 
-/// Times a call of each program, so many in a group. The blocks are then as they were.
+/// Times a call of each program, so many in a group. The blocks, and the directories, are then as they were.
 fn timed(runners: &mut [Runner], group: usize, call: impl Fn(&mut Runner, usize)) -> Vec<Vec<f64>> {
-    let blocks: Vec<Vec<u8>> = runners.iter().map(|runner| runner.block.clone()).collect();
+    let state = |runner: &Runner| (runner.block.clone(), runner.directory.clone());
+    let before: Vec<_> = runners.iter().map(state).collect();
     let call = &call;
     let mut calls: Vec<_> = runners.iter_mut().map(|runner| move |n| call(runner, n)).collect();
     let rounds = in_turn(&mut calls, group);
-    assert!(runners.iter().map(|runner| &runner.block).eq(&blocks), "a group of calls leaves the block as it was");
+    assert!(runners.iter().map(state).eq(before), "a group of calls leaves the block as it was");
     rounds
 }
 
 /// Times a call of each program, and prints the line of it.
 fn row(what: &str, runners: &mut [Runner], call: impl Fn(&mut Runner, usize)) {
-    let rounds = timed(runners, GROUP, call);
-    println!("| {what} | {} | {:.2} µs |", ratios(&rounds), micros(&rounds, 1));
+    let (rounds, library) = (timed(runners, GROUP, call), library_of(runners));
+    println!("| {what} | {} | {:.2} µs |", ratios(&rounds, library), micros(&rounds, library + 1));
 }
 
 /// The n-th call of a program that is asked in this way.
 fn ask(runner: &Runner, kind: Ask, asked: impl Fn(usize) -> (u64, u64), n: usize) {
     let (user, object) = asked(n);
-    black_box(kind(runner.library, &runner.block, user, object));
+    black_box(kind(runner, user, object));
 }
 
 /// The lines of some calls that ask.
@@ -280,7 +377,7 @@ fn rows(kinds: &[(&str, Ask)], runners: &mut [Runner], asked: impl Fn(usize) -> 
 
 /// Prints how many times the test of the block a question takes. The calls of one program are timed in turn.
 fn in_tests(runners: &[Runner], asked: Asked) {
-    let told = ["the library", "Rust"].iter().zip(runners).map(|(name, runner)| {
+    let told = ["the library", "Rust"].iter().zip(&runners[library_of(runners)..]).map(|(name, runner)| {
         let mut calls = [TEST, FULL_QUESTION, SHORT_QUESTION].map(|(_, kind)| move |n| ask(runner, kind, asked, n));
         let rounds = in_turn(&mut calls, GROUP);
         format!("in {name} {:.2} and {:.2}", ratio(&rounds, 1, 0), ratio(&rounds, 2, 0))
@@ -292,7 +389,7 @@ fn in_tests(runners: &[Runner], asked: Asked) {
 fn there_and_back(what: &str, runners: &mut [Runner], key: usize, id: usize) {
     let messages = [NEW, OLD].map(|at| message(at, MEMBERSHIP, key as u16, id as u16, READ));
     row(what, runners, |run, n| {
-        black_box(run.library.message(&mut run.block, &messages[n % 2]));
+        black_box(run.message(&messages[n % 2]));
     });
 }
 
@@ -300,21 +397,26 @@ fn there_and_back(what: &str, runners: &mut [Runner], key: usize, id: usize) {
 fn in_and_out(what: &str, runners: &mut [Runner], key: u64, text: &[u8]) {
     let texts = [text, b""];
     row(what, runners, |run, n| {
-        black_box(run.library.read(&mut run.block, PERMISSION.into(), key, texts[n % 2]));
+        black_box(run.read(key, texts[n % 2]));
     });
 }
 
 fn measure(programs: &Programs, name: &str, size: &Size) {
     programs.title(name);
     let mut runners = programs.with(|library| block(library, size));
-    rows(&[TEST, FULL_QUESTION, SHORT_QUESTION], &mut runners, asked);
+    rows(&programs.asks(), &mut runners, asked);
     let (key, id) = (word(&runners[0].block, HEADER), word(&runners[0].block, HEADER + 2));
     there_and_back("a message that changes a count", &mut runners, key, id);
     there_and_back("a message that inserts, or removes, in front of all", &mut runners, 0, 1);
     row("writing the sets of objects", &mut runners, |run, n| {
-        black_box(run.library.write(&run.block, PERMISSION.into(), n as u64 % u64::from(OBJECTS.end), &mut run.out));
+        black_box(run.write(n as u64 % u64::from(OBJECTS.end)));
     });
     in_and_out("reading a set of two records, and taking it out", &mut runners, 0, b"3;MR;12;MRU2");
+    if programs.by {
+        row("making the directory (without: the test of the block)", &mut runners, |run, _| {
+            black_box(run.make_directory());
+        });
+    }
     in_tests(&runners, asked);
 }
 
@@ -322,7 +424,7 @@ fn measure(programs: &Programs, name: &str, size: &Size) {
 fn questions(programs: &Programs, name: &str, memberships: &[Membership]) {
     programs.title(name);
     let mut runners = programs.with(|library| shaped(library, memberships));
-    rows(&[TEST, FULL_QUESTION, SHORT_QUESTION], &mut runners, spread);
+    rows(&programs.asks(), &mut runners, spread);
     in_tests(&runners, spread);
 }
 
@@ -335,16 +437,16 @@ fn thinned(memberships: &[Membership]) -> Vec<Membership> {
 
 /// The due list, whose questions are asked one after the other: the time of one, and of the list.
 fn due_list(programs: &Programs) {
-    let questions = (CALLERS * ORDERS) as usize;
     let columns = ["library", "Rust", "library, the list", "Rust, the list"];
     let what = "The due list: 2,000 questions on the mill's block, of 40 people about 50 orders";
-    programs.headed(what, &["each question", "library / Rust"], &columns);
+    programs.headed(what, "each question", &columns);
     let mut runners = programs.with(|library| block(library, &MILL));
+    let first = library_of(&runners);
     for (what, kind) in [FULL_QUESTION, SHORT_QUESTION] {
-        let rounds = timed(&mut runners, questions, |runner, n| ask(runner, kind, due, n));
-        let [library, rust] = [0, 1].map(|program| micros(&rounds, program));
-        let [all, in_rust] = [library, rust].map(|one| one * questions as f64 / 1e3);
-        println!("| {what} | {} | {library:.2} µs | {rust:.2} µs | {all:.1} ms | {in_rust:.1} ms |", ratios(&rounds));
+        let rounds = timed(&mut runners, QUESTIONS, |runner, n| ask(runner, kind, due, n));
+        let [library, rust] = [first, first + 1].map(|program| micros(&rounds, program));
+        let [all, in_rust] = [library, rust].map(|one| one * QUESTIONS as f64 / 1e3);
+        println!("| {what} | {} | {library:.2} µs | {rust:.2} µs | {all:.1} ms | {in_rust:.1} ms |", ratios(&rounds, first));
     }
 }
 
@@ -376,13 +478,13 @@ fn large_set(programs: &Programs) {
     in_and_out("reading it in, and taking it out", &mut runners, 5, &text);
     let wrong = [&text[..], b";"].concat();
     row("refusing it for a semicolon at its end", &mut runners, |run, _| {
-        black_box(run.library.read(&mut run.block, PERMISSION.into(), 5, &wrong));
+        black_box(run.read(5, &wrong));
     });
     for run in &mut runners {
-        assert_eq!(run.library.read(&mut run.block, PERMISSION.into(), 5, &text), 1000);
+        assert_eq!(run.read(5, &text), 1000);
     }
     row("writing it", &mut runners, |run, _| {
-        black_box(run.library.write(&run.block, PERMISSION.into(), 5, &mut run.out));
+        black_box(run.write(5));
     });
     assert!(runners.iter().all(|run| run.out.starts_with(&text)), "each program writes the text");
 }
@@ -417,7 +519,7 @@ impl Reach {
 /// microseconds.
 fn less_the_test(library: &dyn Library, along: &[Reach]) -> (Vec<f64>, f64) {
     let blocks: Vec<_> = along.iter().map(|reach| reach.block(library)).collect();
-    let runners = blocks.into_iter().map(|block| Runner { library, block, out: Vec::new() }).collect::<Vec<_>>();
+    let runners = blocks.into_iter().map(|block| Runner::without(library, block)).collect::<Vec<_>>();
     let two = |(runner, reach)| [TEST.1, FULL_QUESTION.1].map(|kind| move |n| ask(runner, kind, |n| Reach::asked(reach, n), n));
     let mut calls: Vec<_> = runners.iter().zip(along).flat_map(two).collect();
     let rounds = in_turn(&mut calls, GROUP);
@@ -429,7 +531,7 @@ fn less_the_test(library: &dyn Library, along: &[Reach]) -> (Vec<f64>, f64) {
 /// Prints how the time of the full question grows along some blocks; each has its number, which stands for it in the table.
 fn growth(programs: &Programs, what: &str, numbers: &[u16], reach: impl Fn(u16) -> Reach) {
     let along: Vec<_> = numbers.iter().map(|&number| reach(number)).collect();
-    let [(library, _), (rust, scale)] = [0, 1].map(|program| less_the_test(programs.0[program].as_ref(), &along));
+    let [(library, _), (rust, scale)] = [0, 1].map(|program| less_the_test(programs.all[program].as_ref(), &along));
     println!("\nThe full question less the test of the block, by memberships {what}, in multiples of the first\n");
     println!("| memberships | library | Rust |\n|---|---|---|");
     for (number, (library, rust)) in numbers.iter().zip(library.iter().zip(rust)) {
@@ -438,23 +540,33 @@ fn growth(programs: &Programs, what: &str, numbers: &[u16], reach: impl Fn(u16) 
     println!("\nThe first takes {scale:.2} µs in Rust.");
 }
 
-/// How many rounds a side takes, and how many names and records it looks at: in each round those of names whose marks grew in the
-/// round before.
-fn looked_at(memberships: &Part, start: u16) -> [usize; 3] {
+/// The names whose records a side looks at, round by round: in each round those whose marks grew in the round before.
+fn rounds_of(memberships: &Part, start: u16) -> Vec<Vec<u16>> {
     let mut marks = [0; NAMES];
     marks[usize::from(start)] = ALL;
-    let (mut grown, mut sums) = (vec![start], [0; 3]);
-    while sums[0] < CHAIN && !grown.is_empty() {
+    let (mut grown, mut rounds) = (vec![start], Vec::new());
+    while rounds.len() < CHAIN && !grown.is_empty() {
         let before = marks;
-        let records = grown.iter().flat_map(|&name| memberships.range((name, 0)..=(name, u16::MAX)));
-        sums = [sums[0] + 1, sums[1] + grown.len(), sums[2] + records.clone().count()];
-        for (&(key, id), counts) in records {
+        for (&(key, id), counts) in grown.iter().flat_map(|&name| records_of(memberships, name)) {
             let mask = (0..4).filter(|&right| counts[right] > 0).map(|right| 1 << right).sum::<u8>();
             marks[usize::from(id)] |= before[usize::from(key)] & mask;
         }
+        rounds.push(grown);
         grown = (0..NAMES as u16).filter(|&name| marks[usize::from(name)] != before[usize::from(name)]).collect();
     }
-    sums
+    rounds
+}
+
+/// The records of a name.
+fn records_of(memberships: &Part, name: u16) -> impl Iterator<Item = (&(u16, u16), &[u16; 8])> {
+    memberships.range((name, 0)..=(name, u16::MAX))
+}
+
+/// How many rounds a side takes, and how many names and records it looks at.
+fn looked_at(memberships: &Part, start: u16) -> [usize; 3] {
+    let rounds = rounds_of(memberships, start);
+    let names = rounds.iter().flatten();
+    [rounds.len(), names.clone().count(), names.flat_map(|&name| records_of(memberships, name)).count()]
 }
 
 /// What a side looks at in the mill, over all its names.
@@ -468,25 +580,108 @@ fn sides() {
     println!("\nWhat a side looks at in the mill, in at most {CHAIN} rounds: {}", told.collect::<Vec<_>>().join("; "));
 }
 
-fn main() -> Result<(), String> {
-    let programs = Programs::new()?;
-    sides();
-    measure(&programs, "Small: 10 memberships, 5 grants", &SMALL);
-    measure(&programs, "The mill: 1,258 memberships, 200 grants, 40 filters", &MILL);
-    measure(&programs, "Full: 1,500 memberships, 500 grants, 45 filters, room for 3 more", &FULL);
-    let chain: Vec<_> = (0..1000).map(|name| (name, name + 1, ALL)).collect();
+/// The bytes of a record that a look at it reads, its key and its id; and those of a number of a directory.
+const PAIR: usize = 4;
+const ENTRY: usize = 2;
+
+/// How many records of a part, with these keys, the library looks at to find the first one of a name. It halves a window of as many
+/// records as there can be, and looks at the one that is left; past the end of the part it reads nothing.
+fn looks(keys: &[u16], name: u16) -> usize {
+    let (mut low, mut looks) = (0, 0);
+    let mut taken = |step: usize, at: usize| {
+        looks += usize::from(at < keys.len());
+        keys.get(at).map_or(0, |&key| if key < name { step } else { 0 })
+    };
+    let mut window = ROOM;
+    while window > 1 {
+        let step = window / 2;
+        low += taken(step, low + step);
+        window -= step;
+    }
+    low += taken(1, low);
+    assert_eq!(low, keys.partition_point(|&key| key < name), "the first one is found");
+    looks
+}
+
+/// The names that the walk of a question looks up, each once for both sides.
+fn looked_up(memberships: &Part, (user, object): (u64, u64)) -> BTreeSet<u16> {
+    [user, object].iter().flat_map(|&start| rounds_of(memberships, start as u16)).flatten().collect()
+}
+
+fn average(numbers: impl ExactSizeIterator<Item = usize>) -> f64 {
+    let how_many = numbers.len() as f64;
+    numbers.sum::<usize>() as f64 / how_many
+}
+
+/// Prints what is read for lookups among the memberships of a block, on average over as many questions as the due list has: the
+/// line of a table.
+fn line_of_lookups(what: &str, block: &[u8], asked: Asked) {
+    let index = Index::decode(block).expect("a good block");
+    let memberships = &index.parts[M];
+    let keys: Vec<u16> = memberships.keys().map(|&(key, _)| key).collect();
+    let each: Vec<usize> = (0..NAMES as u16).map(|name| PAIR * looks(&keys, name)).collect();
+    let walks: Vec<_> = (0..QUESTIONS).map(|n| looked_up(memberships, asked(n))).collect();
+    let names = average(walks.iter().map(BTreeSet::len));
+    let read = average(walks.iter().map(|names| names.iter().map(|&name| each[usize::from(name)]).sum()));
+    let (one, most, by) = (average(each.iter().copied()), each.iter().max().unwrap(), ENTRY as f64 * names);
+    println!("| {what} | {} | {one:.1} | {most} | {names:.1} | {read:.0} | {by:.0} |", keys.len());
+}
+
+/// Prints what lookups read: of the block without a directory, and of the directory with it.
+fn lookups() {
+    let whole = ENTRY * ENTRIES;
+    println!(
+        "\nBytes that lookups among the memberships read, beside the tests: of the block, or of a directory ({whole} bytes)\n"
+    );
+    let columns =
+        ["block", "memberships", "a lookup", "at most", "names in the walk of a question", "of the block", "of a directory"];
+    println!("| {} |\n|{}", columns.join(" | "), "---|".repeat(columns.len()));
+    line_of_lookups("Small", &block(&Plain, &SMALL), asked);
+    line_of_lookups("The mill", &block(&Plain, &MILL), asked);
+    line_of_lookups("The mill, the due list", &block(&Plain, &MILL), due);
+    line_of_lookups("Full", &block(&Plain, &FULL), asked);
+    for (what, memberships) in shapes() {
+        line_of_lookups(what, &shaped(&Plain, &memberships), spread);
+    }
+}
+
+/// Blocks of other shapes.
+fn shapes() -> [(&'static str, Vec<Membership>); 4] {
     let dense: Vec<_> = doubled(0, 1000).collect();
-    questions(&programs, "A chain of 1,000", &chain);
-    questions(&programs, "Dense: every name reaches every other", &dense);
-    questions(&programs, "Dense, with masks that differ", &thinned(&dense));
-    let hub: Vec<_> = (0..999).flat_map(|name| [(name, 999, ALL), (999, name, ALL)]).collect();
-    questions(&programs, "Dense by one group, which every name is in and which is in every name", &hub);
-    due_list(&programs);
-    bound(&programs);
-    large_set(&programs);
+    [
+        ("A chain of 1,000", (0..1000).map(|name| (name, name + 1, ALL)).collect()),
+        ("Dense: every name reaches every other", dense.clone()),
+        ("Dense, with masks that differ", thinned(&dense)),
+        (
+            "Dense by one group, which every name is in and which is in every name",
+            (0..999).flat_map(|name| [(name, 999, ALL), (999, name, ALL)]).collect(),
+        ),
+    ]
+}
+
+/// The tables of all calls.
+fn tables(programs: &Programs) {
+    measure(programs, "Small: 10 memberships, 5 grants", &SMALL);
+    measure(programs, "The mill: 1,258 memberships, 200 grants, 40 filters", &MILL);
+    measure(programs, "Full: 1,500 memberships, 500 grants, 45 filters, room for 3 more", &FULL);
+    for (what, memberships) in shapes() {
+        questions(programs, what, &memberships);
+    }
+    due_list(programs);
+    bound(programs);
+    large_set(programs);
+}
+
+fn main() -> Result<(), String> {
+    let mut programs = Programs::new()?;
+    sides();
+    tables(&programs);
     let more = [250, 500, 1000, 1800];
     growth(&programs, "not reached, with 80 that are", &more, |number| Reach { own: 20, others: number / 2 });
     let reached = [0, 100, 400, 1600];
     growth(&programs, "reached, of 1,800", &reached, |number| Reach { own: number / 4, others: 900 - number / 2 });
+    lookups();
+    programs.by = true;
+    tables(&programs);
     Ok(())
 }

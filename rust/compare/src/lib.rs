@@ -79,6 +79,12 @@ functions! {
     size = anaqsiro_size: unsafe extern "C" fn(*const u8, usize, u64) -> u64,
     record = anaqsiro_record: unsafe extern "C" fn(*const u8, usize, u64) -> u64,
     count = anaqsiro_count: unsafe extern "C" fn(*const u8, usize, u64, u64) -> u64,
+    directory = anaqsiro_directory: unsafe extern "C" fn(*const u8, usize, *mut u16, usize) -> u64,
+    message_by = anaqsiro_message_by: unsafe extern "C" fn(*mut u8, usize, *mut u16, usize, *const u8, usize) -> u64,
+    rights_by = anaqsiro_rights_by: unsafe extern "C" fn(*const u8, usize, *const u16, usize, u64, u64, u64) -> u64,
+    may_by = anaqsiro_may_by: unsafe extern "C" fn(*const u8, usize, *const u16, usize, u64, u64, u64) -> u64,
+    write_by = anaqsiro_write_by: unsafe extern "C" fn(*const u8, usize, *const u16, usize, u64, u64, *mut u8, usize) -> u64,
+    read_by = anaqsiro_read_by: unsafe extern "C" fn(*mut u8, usize, *mut u16, usize, u64, u64, *const u8, usize) -> u64,
 }
 
 // SAFETY: each pointer and length below are those of one slice, borrowed for the call.
@@ -121,5 +127,34 @@ impl Library for Archive {
 
     fn count(&self, block: &[u8], number: u64, letter: u64) -> u64 {
         unsafe { (self.count)(block.as_ptr(), block.len(), number, letter) }
+    }
+
+    fn directory(&self, block: &[u8], directory: &mut [u16]) -> u64 {
+        unsafe { (self.directory)(block.as_ptr(), block.len(), directory.as_mut_ptr(), directory.len()) }
+    }
+
+    fn message_by(&self, block: &mut [u8], directory: &mut [u16], message: &[u8]) -> u64 {
+        let (entries, many) = (directory.as_mut_ptr(), directory.len());
+        unsafe { (self.message_by)(block.as_mut_ptr(), block.len(), entries, many, message.as_ptr(), message.len()) }
+    }
+
+    fn rights_by(&self, block: &[u8], directory: &[u16], user: u64, object: u64, request: u64) -> u64 {
+        let (entries, many) = (directory.as_ptr(), directory.len());
+        unsafe { (self.rights_by)(block.as_ptr(), block.len(), entries, many, user, object, request) }
+    }
+
+    fn may_by(&self, block: &[u8], directory: &[u16], user: u64, object: u64, request: u64) -> u64 {
+        let (entries, many) = (directory.as_ptr(), directory.len());
+        unsafe { (self.may_by)(block.as_ptr(), block.len(), entries, many, user, object, request) }
+    }
+
+    fn write_by(&self, block: &[u8], directory: &[u16], kind: u64, key: u64, out: &mut [u8]) -> u64 {
+        let (entries, many) = (directory.as_ptr(), directory.len());
+        unsafe { (self.write_by)(block.as_ptr(), block.len(), entries, many, kind, key, out.as_mut_ptr(), out.len()) }
+    }
+
+    fn read_by(&self, block: &mut [u8], directory: &mut [u16], kind: u64, key: u64, text: &[u8]) -> u64 {
+        let (entries, many) = (directory.as_mut_ptr(), directory.len());
+        unsafe { (self.read_by)(block.as_mut_ptr(), block.len(), entries, many, kind, key, text.as_ptr(), text.len()) }
     }
 }

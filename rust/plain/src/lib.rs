@@ -4,6 +4,10 @@
 
 use second::drive::{packed, Library};
 
+mod directory;
+
+pub use directory::{directory, may_by, message_by, read_by, rights_by, write_by, ENTRIES};
+
 const LETTERS: [u8; 8] = *b"MRUPmrup";
 /// How many of the letters are rights, and the mask of those; the denials follow.
 const RIGHTS: usize = 4;
@@ -29,7 +33,11 @@ pub const OLD: usize = 2;
 pub const NEW: usize = OLD + HALF;
 const HALF: usize = 5;
 const MASK: usize = 4;
+/// The parts of a block in their order. A kind's number is one more.
+const M: usize = 0;
 const P: usize = 1;
+const F: usize = 2;
+const KINDS: usize = 3;
 
 fn word(b: &[u8], at: usize) -> usize {
     usize::from(u16::from_le_bytes(b[at..at + 2].try_into().expect("two bytes")))
@@ -112,6 +120,14 @@ pub fn tested(b: &[u8]) -> u32 {
     }
 }
 
+/// Fails where the block is not good.
+fn sound(b: &[u8]) -> Result<(), u32> {
+    match tested(b) {
+        0 => Ok(()),
+        number => Err(number),
+    }
+}
+
 fn put_header(b: &mut [u8], m: usize, p: usize, f: usize) {
     for (k, n) in [m, p, f, 0, HEADER, place(m), place(m + p), place(m + p + f)].into_iter().enumerate() {
         put_word(b, 2 * k, n);
@@ -140,14 +156,51 @@ fn lower(b: &[u8], mut lo: usize, mut hi: usize, want: usize) -> usize {
     lo
 }
 
-fn find(b: &[u8], kind: usize, want: usize) -> (usize, bool) {
-    let at = bounds(b);
-    let i = lower(b, at[kind], at[kind + 1], want);
-    (i, i < at[kind + 1] && pair(b, place(i)) == want)
+/// How the records of a key are found: the first, and the one after the last.
+trait Find {
+    /// The records of the key.
+    fn set(&self, b: &[u8], kind: usize, key: usize) -> (usize, usize);
+
+    /// Those among which one of them is searched for.
+    fn near(&self, b: &[u8], kind: usize, key: usize) -> (usize, usize) {
+        self.set(b, kind, key)
+    }
 }
 
-/// The records from `from` on move so that they begin at `to`; the header follows.
-fn shift(b: &mut [u8], kind: usize, from: usize, to: usize) {
+/// What is kept true while records move.
+trait Keep: Find {
+    /// The records behind those of the key began at `from`, and begin at `to`.
+    fn moved(&mut self, kind: usize, key: usize, from: usize, to: usize);
+}
+
+/// Records are searched for by halves, and nothing is kept.
+struct Search;
+
+impl Find for Search {
+    fn set(&self, b: &[u8], kind: usize, key: usize) -> (usize, usize) {
+        let ((lo, hi), want) = (self.near(b, kind, key), key << NAME_BITS);
+        let first = lower(b, lo, hi, want);
+        (first, lower(b, first, hi, want + NAMES))
+    }
+
+    fn near(&self, b: &[u8], kind: usize, _: usize) -> (usize, usize) {
+        let at = bounds(b);
+        (at[kind], at[kind + 1])
+    }
+}
+
+impl Keep for Search {
+    fn moved(&mut self, _: usize, _: usize, _: usize, _: usize) {}
+}
+
+fn find(b: &[u8], keys: &impl Find, kind: usize, want: usize) -> (usize, bool) {
+    let (lo, hi) = keys.near(b, kind, want >> NAME_BITS);
+    let i = lower(b, lo, hi, want);
+    (i, i < hi && pair(b, place(i)) == want)
+}
+
+/// The records from `from` on, behind those of the key, move so that they begin at `to`; the header follows.
+fn shift(b: &mut [u8], keys: &mut impl Keep, kind: usize, key: usize, from: usize, to: usize) {
     let at = bounds(b);
     let end = place(at[3]);
     b.copy_within(place(from)..end, place(to));
@@ -157,14 +210,15 @@ fn shift(b: &mut [u8], kind: usize, from: usize, to: usize) {
     let mut sizes = [at[1], at[2] - at[1], at[3] - at[2]];
     sizes[kind] = sizes[kind] + to - from;
     put_header(b, sizes[0], sizes[1], sizes[2]);
+    keys.moved(kind, key, from, to);
 }
 
 fn count_at(i: usize, k: usize) -> usize {
     place(i) + COUNTS + 2 * k
 }
 
-fn take(b: &mut [u8], kind: usize, want: usize, mask: u8) -> u32 {
-    let (i, there) = find(b, kind, want);
+fn take(b: &mut [u8], keys: &mut impl Keep, kind: usize, want: usize, mask: u8) -> u32 {
+    let (i, there) = find(b, keys, kind, want);
     if !there || (0..LETTERS.len()).any(|k| mask >> k & 1 == 1 && word(b, count_at(i, k)) == 0) {
         return 6;
     }
@@ -175,13 +229,13 @@ fn take(b: &mut [u8], kind: usize, want: usize, mask: u8) -> u32 {
         left |= n;
     }
     if left == 0 {
-        shift(b, kind, i + 1, i);
+        shift(b, keys, kind, want >> NAME_BITS, i + 1, i);
     }
     0
 }
 
-fn add(b: &mut [u8], kind: usize, want: usize, mask: u8) -> u32 {
-    let (i, there) = find(b, kind, want);
+fn add(b: &mut [u8], keys: &mut impl Keep, kind: usize, want: usize, mask: u8) -> u32 {
+    let (i, there) = find(b, keys, kind, want);
     if there {
         if (0..LETTERS.len()).any(|k| mask >> k & 1 == 1 && word(b, count_at(i, k)) == MOST) {
             return 7;
@@ -194,7 +248,7 @@ fn add(b: &mut [u8], kind: usize, want: usize, mask: u8) -> u32 {
         if bounds(b)[3] == (b.len() - HEADER) / RECORD {
             return 8;
         }
-        shift(b, kind, i, i + 1);
+        shift(b, keys, kind, want >> NAME_BITS, i, i + 1);
         put_word(b, place(i), want >> NAME_BITS);
         put_word(b, place(i) + 2, want % NAMES);
         for k in 0..LETTERS.len() {
@@ -205,10 +259,11 @@ fn add(b: &mut [u8], kind: usize, want: usize, mask: u8) -> u32 {
 }
 
 pub fn message(b: &mut [u8], m: &[u8]) -> u32 {
-    let number = tested(b);
-    if number != 0 {
-        return number;
-    }
+    sound(b).map_or_else(|number| number, |()| message_with(b, &mut Search, m))
+}
+
+/// The message on a good block, whose records are found in this way.
+fn message_with(b: &mut [u8], keys: &mut impl Keep, m: &[u8]) -> u32 {
     if m.len() != MESSAGE || !(1..=3).contains(&m[0]) || !(1..=3).contains(&m[1]) {
         return 3;
     }
@@ -227,16 +282,16 @@ pub fn message(b: &mut [u8], m: &[u8]) -> u32 {
     }
     let (from, to) = (pair(m, OLD), pair(m, NEW));
     if old {
-        let number = take(b, kind, from, less);
+        let number = take(b, keys, kind, from, less);
         if number != 0 {
             return number;
         }
     }
     if new {
-        let number = add(b, kind, to, more);
+        let number = add(b, keys, kind, to, more);
         if number != 0 {
             if old {
-                add(b, kind, from, less);
+                add(b, keys, kind, from, less);
             }
             return number;
         }
@@ -262,6 +317,24 @@ fn net(record: &Record) -> u8 {
 
 /// The numbers of a name's M records: the first, and the one after the last.
 type Span = (u16, u16);
+
+/// How a question looks up the records of a name: the numbers of its M records, and its F records.
+trait Look {
+    fn span(&self, name: usize) -> Span;
+    fn filters<'a>(&self, filters: &'a [Record], name: usize) -> &'a [Record];
+}
+
+/// The M records were noted for each name; the F records are searched for.
+impl Look for [Span; NAMES] {
+    fn span(&self, name: usize) -> Span {
+        self[name]
+    }
+
+    fn filters<'a>(&self, filters: &'a [Record], name: usize) -> &'a [Record] {
+        let from = &filters[filters.partition_point(|record| word(record, 0) < name)..];
+        &from[..from.iter().take_while(|&record| word(record, 0) == name).count()]
+    }
+}
 
 /// Where the M records of each name stand; the two numbers are the same for a name that has none.
 fn spans(memberships: &[Record]) -> [Span; NAMES] {
@@ -319,13 +392,13 @@ impl Walk {
 
     /// Begins a round: lists the records of the names whose marks grew in the round before, and counts them if they are to be
     /// counted. How many there are.
-    fn begin<const COUNTED: bool>(&mut self, spans: &[Span; NAMES], list: &mut [u16; ROOM + FEW]) -> usize {
+    fn begin<const COUNTED: bool>(&mut self, look: &impl Look, list: &mut [u16; ROOM + FEW]) -> usize {
         let mut listed = 0;
         for &name in &self.grown[..self.names] {
             let name = usize::from(name) % NAMES;
             let grew = self.before[name] ^ self.marks[name];
             self.before[name] = self.marks[name];
-            let (mut i, end) = spans[name];
+            let (mut i, end) = look.span(name);
             self.examined += if COUNTED { ONCE[usize::from(grew)] * u32::from(end - i) } else { 0 };
             let (mut at, after) = (listed, listed + usize::from(end - i));
             listed = after;
@@ -354,10 +427,10 @@ impl Walk {
     }
 
     /// Goes on for as many rounds as a chain may have records.
-    fn go<const COUNTED: bool>(&mut self, memberships: &[Record], spans: &[Span; NAMES]) {
+    fn go<const COUNTED: bool>(&mut self, memberships: &[Record], look: &impl Look) {
         let mut list = [0; ROOM + FEW];
         for _ in 0..CHAIN {
-            let listed = self.begin::<COUNTED>(spans, &mut list);
+            let listed = self.begin::<COUNTED>(look, &mut list);
             if listed == 0 {
                 break;
             }
@@ -367,33 +440,42 @@ impl Walk {
 }
 
 /// The rights that all filters leave which bind an object, given its own M records.
-fn filter(filters: &[Record], object: usize, own: &[Record]) -> u8 {
-    let keyed = |name: usize| {
-        let first = filters.partition_point(|record| word(record, 0) < name);
-        filters[first..].iter().take_while(move |&record| word(record, 0) == name)
-    };
+fn filter(filters: &[Record], look: &impl Look, object: usize, own: &[Record]) -> u8 {
     let groups = own.iter().map(|record| word(record, ID));
-    std::iter::once(object).chain(groups).flat_map(keyed).fold(ALL, |all, record| all & mask(record, COUNTS))
+    let binding = std::iter::once(object).chain(groups).flat_map(|name| look.filters(filters, name));
+    binding.fold(ALL, |all, record| all & mask(record, COUNTS))
 }
 
 /// The rights held of those requested and, if they are to be counted, the numbers of M records examined.
-fn question<const COUNTED: bool>(b: &[u8], user: u64, object: u64, request: u64) -> Result<(u8, u32), u32> {
-    let number = tested(b);
-    if number != 0 {
-        return Err(number);
-    }
+type Answer = Result<(u8, u32), u32>;
+
+/// A user, an object and a request.
+type Asked = (usize, usize, u8);
+
+/// What is asked, where it can be.
+fn asked(user: u64, object: u64, request: u64) -> Result<Asked, u32> {
     if user >= NAMES as u64 || object >= NAMES as u64 {
         return Err(4);
     }
     if request == 0 || request > ALL.into() {
         return Err(5);
     }
-    let (user, object, [m, p, f]) = (user as usize, object as usize, parts(b));
-    let spans = spans(m);
-    let (start, end) = spans[object];
-    let limit = filter(f, object, &m[start.into()..end.into()]) & request as u8;
+    Ok((user as usize, object as usize, request as u8))
+}
+
+fn question<const COUNTED: bool>(b: &[u8], user: u64, object: u64, request: u64) -> Answer {
+    sound(b)?;
+    let asked = asked(user, object, request)?;
+    Ok(answered::<COUNTED>(b, &spans(parts(b)[M]), asked))
+}
+
+/// The answer from a good block, where records are looked up in this way.
+fn answered<const COUNTED: bool>(b: &[u8], look: &impl Look, (user, object, request): Asked) -> (u8, u32) {
+    let [m, p, f] = parts(b);
+    let (start, end) = look.span(object);
+    let limit = filter(f, look, object, &m[start.into()..end.into()]) & request;
     let mut walk = Walk::new(user, object);
-    walk.go::<COUNTED>(m, &spans);
+    walk.go::<COUNTED>(m, look);
     let marks = &mut walk.marks;
     marks[0] |= OBJECT;
     let mut held = 0;
@@ -406,31 +488,37 @@ fn question<const COUNTED: bool>(b: &[u8], user: u64, object: u64, request: u64)
             }
         }
     }
-    Ok((held, walk.examined))
+    (held, walk.examined)
+}
+
+/// The number and the value of the full question.
+fn full(answer: Answer) -> (u32, u32) {
+    answer.map_or_else(|n| (n, 0), |(held, examined)| (0, u32::from(held) | examined))
+}
+
+/// The same of the short one.
+fn short(answer: Answer, request: u64) -> (u32, u32) {
+    answer.map_or_else(|n| (n, 0), |(held, _)| (0, (u64::from(held) == request).into()))
 }
 
 pub fn rights(b: &[u8], user: u64, object: u64, request: u64) -> (u32, u32) {
-    question::<true>(b, user, object, request).map_or_else(|n| (n, 0), |(held, examined)| (0, u32::from(held) | examined))
+    full(question::<true>(b, user, object, request))
 }
 
 pub fn may(b: &[u8], user: u64, object: u64, request: u64) -> (u32, u32) {
-    question::<false>(b, user, object, request).map_or_else(|n| (n, 0), |(held, _)| (0, (u64::from(held) == request).into()))
+    short(question::<false>(b, user, object, request), request)
 }
 
-fn set_bounds(b: &[u8], kind: u64, key: u64) -> Result<(usize, usize, usize), u32> {
-    let number = tested(b);
-    if number != 0 {
-        return Err(number);
-    }
+fn set_bounds(b: &[u8], keys: &impl Find, kind: u64, key: u64) -> Result<(usize, usize, usize), u32> {
     if !(1..=3).contains(&kind) {
         return Err(3);
     }
     if key >= NAMES as u64 {
         return Err(4);
     }
-    let (kind, want, at) = (kind as usize - 1, (key as usize) << NAME_BITS, bounds(b));
-    let lo = lower(b, at[kind], at[kind + 1], want);
-    Ok((kind, lo, lower(b, lo, at[kind + 1], want + NAMES)))
+    let kind = kind as usize - 1;
+    let (lo, hi) = keys.set(b, kind, key as usize);
+    Ok((kind, lo, hi))
 }
 
 struct Out<'a> {
@@ -476,7 +564,12 @@ fn put_set(b: &[u8], lo: usize, hi: usize, out: &mut [u8]) -> usize {
 }
 
 pub fn write(b: &[u8], kind: u64, key: u64, out: &mut [u8]) -> (u32, u32) {
-    match set_bounds(b, kind, key) {
+    sound(b).map_or_else(|number| (number, 0), |()| write_with(b, &Search, kind, key, out))
+}
+
+/// The text of a set of a good block, whose records are found in this way.
+fn write_with(b: &[u8], keys: &impl Find, kind: u64, key: u64, out: &mut [u8]) -> (u32, u32) {
+    match set_bounds(b, keys, kind, key) {
         Err(number) => (number, 0),
         Ok((_, lo, hi)) => {
             let length = put_set(b, lo, hi, &mut []);
@@ -567,7 +660,12 @@ fn scan(text: &[u8], kind: usize, mut each: impl FnMut(usize, usize, &[usize; LE
 }
 
 pub fn read(b: &mut [u8], kind: u64, key: u64, text: &[u8]) -> (u32, u32) {
-    let (kind, lo, hi) = match set_bounds(b, kind, key) {
+    sound(b).map_or_else(|number| (number, 0), |()| read_with(b, &mut Search, kind, key, text))
+}
+
+/// The set of a text put into a good block, whose records are found in this way.
+fn read_with(b: &mut [u8], keys: &mut impl Keep, kind: u64, key: u64, text: &[u8]) -> (u32, u32) {
+    let (kind, lo, hi) = match set_bounds(b, keys, kind, key) {
         Err(number) => return (number, 0),
         Ok(found) => found,
     };
@@ -578,7 +676,7 @@ pub fn read(b: &mut [u8], kind: u64, key: u64, text: &[u8]) -> (u32, u32) {
     if bounds(b)[3] - (hi - lo) + records > (b.len() - HEADER) / RECORD {
         return (8, 0);
     }
-    shift(b, kind, hi, lo + records);
+    shift(b, keys, kind, key as usize, hi, lo + records);
     let _ = scan(text, kind, |n, id, counts| {
         let i = lo + n;
         put_word(b, place(i), key as usize);
@@ -619,6 +717,11 @@ pub fn count(b: &[u8], number: u64, letter: u64) -> u32 {
     word_in(b, count_at(number as usize, letter as usize))
 }
 
+/// A number and a value as the C interface returns them.
+fn both((number, value): (u32, u32)) -> u64 {
+    packed(number, value)
+}
+
 /// The calls as the C interface has them.
 pub struct Plain;
 
@@ -632,23 +735,19 @@ impl Library for Plain {
     }
 
     fn rights(&self, block: &[u8], user: u64, object: u64, request: u64) -> u64 {
-        let (number, value) = rights(block, user, object, request);
-        packed(number, value)
+        both(rights(block, user, object, request))
     }
 
     fn may(&self, block: &[u8], user: u64, object: u64, request: u64) -> u64 {
-        let (number, value) = may(block, user, object, request);
-        packed(number, value)
+        both(may(block, user, object, request))
     }
 
     fn write(&self, block: &[u8], kind: u64, key: u64, out: &mut [u8]) -> u64 {
-        let (number, value) = write(block, kind, key, out);
-        packed(number, value)
+        both(write(block, kind, key, out))
     }
 
     fn read(&self, block: &mut [u8], kind: u64, key: u64, text: &[u8]) -> u64 {
-        let (number, value) = read(block, kind, key, text);
-        packed(number, value)
+        both(read(block, kind, key, text))
     }
 
     fn tested(&self, block: &[u8]) -> u64 {
@@ -656,8 +755,7 @@ impl Library for Plain {
     }
 
     fn size(&self, block: &[u8], kind: u64) -> u64 {
-        let (number, value) = size(block, kind);
-        packed(number, value)
+        both(size(block, kind))
     }
 
     fn record(&self, block: &[u8], number: u64) -> u64 {
@@ -666,5 +764,29 @@ impl Library for Plain {
 
     fn count(&self, block: &[u8], number: u64, letter: u64) -> u64 {
         packed(0, count(block, number, letter))
+    }
+
+    fn directory(&self, block: &[u8], lent: &mut [u16]) -> u64 {
+        packed(directory(block, lent), 0)
+    }
+
+    fn message_by(&self, block: &mut [u8], directory: &mut [u16], bytes: &[u8]) -> u64 {
+        packed(message_by(block, directory, bytes), 0)
+    }
+
+    fn rights_by(&self, block: &[u8], directory: &[u16], user: u64, object: u64, request: u64) -> u64 {
+        both(rights_by(block, directory, user, object, request))
+    }
+
+    fn may_by(&self, block: &[u8], directory: &[u16], user: u64, object: u64, request: u64) -> u64 {
+        both(may_by(block, directory, user, object, request))
+    }
+
+    fn write_by(&self, block: &[u8], directory: &[u16], kind: u64, key: u64, out: &mut [u8]) -> u64 {
+        both(write_by(block, directory, kind, key, out))
+    }
+
+    fn read_by(&self, block: &mut [u8], directory: &mut [u16], kind: u64, key: u64, text: &[u8]) -> u64 {
+        both(read_by(block, directory, kind, key, text))
     }
 }

@@ -1,5 +1,5 @@
-//! Holds a library against the second program: random cases, the result and every byte of every lent buffer compared, and
-//! guard bytes around each buffer. A run keeps count of what it met, and says what it should have met and did not.
+//! Holds a library against the second program: random cases, the result and every element of every lent buffer compared, and
+//! guards around each buffer. A run keeps count of what it met, and says what it should have met and did not.
 
 use crate::gen::{self, Rng};
 use crate::growth::Growth;
@@ -7,7 +7,10 @@ use crate::sides::{rounds, Sides};
 use crate::{binding, carries, denied, granted, letters, meets, numbers, passes, set_of, word, Index};
 use crate::{ALL, CHAIN, COUNTS, HEADER, IDS, KINDS, LAST, LETTERS, M, NAMES, P, RECORD, RIGHTS};
 use std::collections::{BTreeMap, BTreeSet};
+use std::fmt::Debug;
 use std::ops::Range;
+
+mod by;
 
 /// The calls, each returning the refusal's number times 2^32 plus a value, as the C interface does.
 pub trait Library {
@@ -21,6 +24,12 @@ pub trait Library {
     fn size(&self, block: &[u8], kind: u64) -> u64;
     fn record(&self, block: &[u8], number: u64) -> u64;
     fn count(&self, block: &[u8], number: u64, letter: u64) -> u64;
+    fn directory(&self, block: &[u8], directory: &mut [u16]) -> u64;
+    fn message_by(&self, block: &mut [u8], directory: &mut [u16], message: &[u8]) -> u64;
+    fn rights_by(&self, block: &[u8], directory: &[u16], user: u64, object: u64, request: u64) -> u64;
+    fn may_by(&self, block: &[u8], directory: &[u16], user: u64, object: u64, request: u64) -> u64;
+    fn write_by(&self, block: &[u8], directory: &[u16], kind: u64, key: u64, out: &mut [u8]) -> u64;
+    fn read_by(&self, block: &mut [u8], directory: &mut [u16], kind: u64, key: u64, text: &[u8]) -> u64;
 }
 
 /// A number and a value as the calls return them.
@@ -35,28 +44,31 @@ const GUARD: usize = 64;
 const FRONT: u8 = 0xA5;
 const BACK: u8 = 0x5A;
 
-/// A lent buffer with guard bytes before and after it.
-struct Lent(Vec<u8>);
+/// A lent buffer, of bytes or of 16-bit numbers, with guards before and after it.
+struct Lent<T>(Vec<T>);
 
-impl Lent {
-    fn new(bytes: &[u8]) -> Lent {
-        Lent([&[FRONT; GUARD], bytes, &[BACK; GUARD]].concat())
+impl<T: Copy + PartialEq + Debug + From<u8>> Lent<T> {
+    fn new(elements: &[T]) -> Lent<T> {
+        Lent([&[FRONT.into(); GUARD], elements, &[BACK.into(); GUARD]].concat())
     }
 
-    fn lend(&mut self) -> &mut [u8] {
+    fn lend(&mut self) -> &mut [T] {
         let end = self.0.len() - GUARD;
         &mut self.0[GUARD..end]
     }
 
-    /// The bytes, if the guards are whole.
-    fn bytes(&self) -> Result<&[u8], String> {
+    /// Fails where the elements are not these, or the guards are not whole.
+    fn is(&self, want: &[T]) -> Result<(), String> {
         let (front, rest) = self.0.split_at(GUARD);
-        let (bytes, back) = rest.split_at(rest.len() - GUARD);
-        if front.iter().all(|&b| b == FRONT) && back.iter().all(|&b| b == BACK) {
-            Ok(bytes)
-        } else {
-            Err("a byte outside the buffer was written".into())
+        let (elements, back) = rest.split_at(rest.len() - GUARD);
+        if front != [FRONT.into(); GUARD] || back != [BACK.into(); GUARD] {
+            return Err("was written beyond its ends".into());
         }
+        if elements == want {
+            return Ok(());
+        }
+        let at = elements.iter().zip(want).take_while(|(one, other)| one == other).count();
+        Err(format!("has {:?} at {at} where {:?} is right", elements[at], want[at]))
     }
 }
 
@@ -148,6 +160,12 @@ const TO_MEET: &[(&str, &str, &[i64])] = &[
     ("count", "number too great, that names a record by its last bits", &[16, 32]),
 ];
 
+/// The lines of `TO_MEET`, and those of the calls by a directory.
+fn to_meet() -> impl Iterator<Item = (&'static str, &'static str, &'static [i64])> {
+    let by = by::TO_MEET.iter().flat_map(|&(calls, what, all)| calls.iter().map(move |&call| (call, what, all)));
+    TO_MEET.iter().copied().chain(by)
+}
+
 /// How often a run met what.
 #[derive(Default)]
 pub struct Tally {
@@ -162,17 +180,16 @@ impl Tally {
 
     /// What was met, a line for each call and respect.
     pub fn lines(&self) -> Vec<String> {
-        let counted = |&(call, what, all): &(&'static str, &'static str, &[i64])| {
+        let counted = |(call, what, all): (&'static str, &'static str, &[i64])| {
             let one = |&n: &i64| format!("{n}: {}", self.met.get(&(call, what, n)).unwrap_or(&0));
             format!("{call}, {what} {}", all.iter().map(one).collect::<Vec<_>>().join(", "))
         };
-        TO_MEET.iter().map(counted).collect()
+        to_meet().map(counted).collect()
     }
 
     /// Fails where something was not met, or something was met that no call may give.
     pub fn complete(&self) -> Result<(), String> {
-        let wanted: BTreeSet<_> =
-            TO_MEET.iter().flat_map(|&(call, what, all)| all.iter().map(move |&n| (call, what, n))).collect();
+        let wanted: BTreeSet<_> = to_meet().flat_map(|(call, what, all)| all.iter().map(move |&n| (call, what, n))).collect();
         let met = self.met.keys().copied().collect();
         let told = |what: &str, keys: BTreeSet<(&str, &str, i64)>| {
             keys.into_iter().map(|(call, respect, n)| format!("{what}: {call}, {respect} {n}")).collect::<Vec<_>>()
@@ -190,7 +207,8 @@ impl Tally {
 type Answer = fn(&[u8], u64, u64, u64) -> (u32, u32);
 type Ask = fn(&dyn Library, &[u8], u64, u64, u64) -> u64;
 
-/// One call in the making: the library, the block that it is made on, and the records of that block or of one like it.
+/// One call in the making: the library, the block that it is made on, the records of that block or of one like it, the
+/// directory that the library last made or kept true, and whether that one is to be lent.
 struct Call<'a> {
     lib: &'a dyn Library,
     rng: &'a mut Rng,
@@ -198,6 +216,8 @@ struct Call<'a> {
     name: &'static str,
     block: &'a [u8],
     index: &'a Index,
+    kept: &'a mut Vec<u16>,
+    keeping: bool,
 }
 
 impl Call<'_> {
@@ -205,20 +225,17 @@ impl Call<'_> {
         self.tally.saw(self.name, what, which);
     }
 
-    /// What came back, and the buffers then, against what the second program says. `words` are those of the call.
-    fn agree(&mut self, got: u64, number: u32, value: u32, lent: &[(&Lent, &[u8])], words: String) -> Result<(), String> {
+    /// What came back, and whether the buffers are as they should be, against what the second program says. `words` are those of
+    /// the call.
+    fn agree(&mut self, got: u64, number: u32, value: u32, lent: &[Result<(), String>], words: String) -> Result<(), String> {
         self.tally.calls += 1;
         self.saw("number", number.into());
         let told = |what: String| format!("{} {words}: {what}", self.name);
         if got != packed(number, value) {
             return Err(told(format!("returned {}, {} where {number}, {value} is right", got >> 32, got as u32)));
         }
-        for (k, (buffer, want)) in lent.iter().enumerate() {
-            if buffer.bytes().map_err(told)? != *want {
-                return Err(told(format!("buffer {k} differs")));
-            }
-        }
-        Ok(())
+        let wrong = lent.iter().enumerate().find_map(|(k, buffer)| Some((k, buffer.as_ref().err()?)));
+        wrong.map_or(Ok(()), |(k, what)| Err(told(format!("buffer {k} {what}"))))
     }
 
     /// How many records a good block has.
@@ -230,35 +247,55 @@ impl Call<'_> {
         let (number, after) = crate::make(self.block);
         let mut b = Lent::new(self.block);
         let got = self.lib.make(b.lend());
-        self.agree(got, number, 0, &[(&b, &after)], String::new())?;
+        self.agree(got, number, 0, &[b.is(&after)], String::new())?;
         Ok(if self.rng.one_in(8) { after } else { self.block.to_vec() })
     }
 
+    /// A message, good more often than not.
+    fn bytes(&mut self) -> Vec<u8> {
+        if self.rng.one_in(30) {
+            gen::bytes(self.rng, 14)
+        } else {
+            gen::message(self.rng, self.index)
+        }
+    }
+
     fn message(&mut self) -> Result<Vec<u8>, String> {
-        let m = if self.rng.one_in(30) { gen::bytes(self.rng, 14) } else { gen::message(self.rng, self.index) };
+        let m = self.bytes();
         let (number, after) = crate::message(self.block, &m);
         let (mut b, mut lent) = (Lent::new(self.block), Lent::new(&m));
         let got = self.lib.message(b.lend(), lent.lend());
-        self.agree(got, number, 0, &[(&b, &after), (&lent, &m)], format!("{m:02x?}"))?;
+        self.agree(got, number, 0, &[b.is(&after), lent.is(&m)], format!("{m:02x?}"))?;
+        self.saw_message(number, &m, &after);
+        Ok(after)
+    }
+
+    /// What a message that got this number did.
+    fn saw_message(&mut self, number: u32, m: &[u8], after: &[u8]) {
         if number == 0 {
             self.saw("kind accepted", m[0].into());
             self.saw("flags accepted", m[1].into());
-            self.saw("records more", Self::records(&after) - Self::records(self.block));
+            self.saw("records more", Self::records(after) - Self::records(self.block));
         }
         if [0, 7, 8].contains(&number) && m[1] & 1 == 1 {
             self.saw("number after a half was taken", number.into());
         }
-        Ok(after)
+    }
+
+    /// A user, an object and a request.
+    fn question(&mut self) -> (u64, u64, u64) {
+        let (user, object) = gen::question(self.rng, self.index);
+        let request = if self.rng.one_in(3) { gen::number(self.rng, ALL + 1) } else { 1 + self.rng.below(ALL) };
+        (user, object, request)
     }
 
     /// Asks a question of both programs; user, object, request and value, where it is accepted.
     fn asked(&mut self, second: Answer, lib: Ask) -> Result<Option<(u16, u16, u8, u32)>, String> {
-        let (user, object) = gen::question(self.rng, self.index);
-        let request = if self.rng.one_in(3) { gen::number(self.rng, ALL + 1) } else { 1 + self.rng.below(ALL) };
+        let (user, object, request) = self.question();
         let (number, value) = second(self.block, user, object, request);
         let mut b = Lent::new(self.block);
         let got = lib(self.lib, b.lend(), user, object, request);
-        self.agree(got, number, value, &[(&b, self.block)], format!("{user} {object} {request}"))?;
+        self.agree(got, number, value, &[b.is(self.block)], format!("{user} {object} {request}"))?;
         Ok((number == 0).then_some((user as u16, object as u16, request as u8, value)))
     }
 
@@ -419,8 +456,8 @@ impl Call<'_> {
         self.saw(what, kind as i64);
     }
 
-    fn write(&mut self) -> Result<Vec<u8>, String> {
-        let (kind, key) = self.set();
+    /// How long the text of a set is, and a buffer that it may fit into.
+    fn out(&mut self, kind: u64, key: u64) -> (usize, Vec<u8>) {
         let full = crate::write(self.block, kind, key, &[0; TEXT]).1 as usize;
         let room = match self.rng.below(4) {
             0 => full,
@@ -428,49 +465,77 @@ impl Call<'_> {
             2 => full + self.rng.below(5) as usize,
             _ => self.rng.below(64) as usize,
         };
-        let out: Vec<u8> = (0..room).map(|_| self.rng.bits() as u8).collect();
+        (full, (0..room).map(|_| self.rng.bits() as u8).collect())
+    }
+
+    fn write(&mut self) -> Result<Vec<u8>, String> {
+        let (kind, key) = self.set();
+        let (full, out) = self.out(kind, key);
         let (number, value, after) = crate::write(self.block, kind, key, &out);
         let (mut b, mut lent) = (Lent::new(self.block), Lent::new(&out));
         let got = self.lib.write(b.lend(), kind, key, lent.lend());
-        self.agree(got, number, value, &[(&b, self.block), (&lent, &after)], format!("{kind} {key} into {room}"))?;
+        let words = format!("{kind} {key} into {}", out.len());
+        self.agree(got, number, value, &[b.is(self.block), lent.is(&after)], words)?;
+        self.saw_write(number, kind, full, out.len());
+        Ok(self.block.to_vec())
+    }
+
+    /// What a write of a text so long into so much room did.
+    fn saw_write(&mut self, number: u32, kind: u64, full: usize, room: usize) {
         if number == 0 {
             self.saw_set(kind, full);
         }
         if full > 0 && (room == full || room == full - 1) {
             self.saw("bytes of room over a text", room as i64 - full as i64);
         }
-        Ok(self.block.to_vec())
+    }
+
+    /// A text for a set of the kind.
+    fn text(&mut self, kind: u64) -> Vec<u8> {
+        let part = (kind as usize).wrapping_sub(1).min(KINDS - 1);
+        if self.rng.one_in(30) {
+            gen::bytes(self.rng, 9)
+        } else {
+            gen::set_text(self.rng, self.index, part)
+        }
     }
 
     fn read(&mut self) -> Result<Vec<u8>, String> {
         let (kind, key) = self.set();
-        let part = (kind as usize).wrapping_sub(1).min(KINDS - 1);
-        let text = if self.rng.one_in(30) { gen::bytes(self.rng, 9) } else { gen::set_text(self.rng, self.index, part) };
+        let text = self.text(kind);
         let (number, value, after) = crate::read(self.block, kind, key, &text);
         let (mut b, mut lent) = (Lent::new(self.block), Lent::new(&text));
         let got = self.lib.read(b.lend(), kind, key, lent.lend());
         let words = format!("{kind} {key} {}", String::from_utf8_lossy(&text));
-        self.agree(got, number, value, &[(&b, &after), (&lent, &text)], words)?;
+        self.agree(got, number, value, &[b.is(&after), lent.is(&text)], words)?;
         match number {
-            0 => {
-                self.saw_set(kind, text.len());
-                self.saw("records more, or fewer", (Self::records(&after) - Self::records(self.block)).signum());
-            }
+            0 => self.saw_read(kind, &text, &after),
             9 => self.saw_place(kind, key, &text, value as usize),
             _ => {}
         }
         Ok(after)
     }
 
+    /// What an accepted read did.
+    fn saw_read(&mut self, kind: u64, text: &[u8], after: &[u8]) {
+        self.saw_set(kind, text.len());
+        self.saw("records more, or fewer", (Self::records(after) - Self::records(self.block)).signum());
+    }
+
     /// Where a text was wrong, and in what way.
     fn saw_place(&mut self, kind: u64, key: u64, text: &[u8], place: usize) {
         let (index, part) = (index_of(self.block), kind as usize - 1);
         let room = index.room() - index.records() + set_of(&index.parts[part], key as u16).len();
-        let (records, inside, end) = (semicolons(&text[..place]) / 2, place > 0, place == text.len());
+        let records = semicolons(&text[..place]) / 2;
         self.saw("kind refused for its text", kind as i64);
-        self.saw("refused for its text at the front, inside, or at the end", i64::from(inside) + i64::from(end));
+        self.saw_where(text, place);
         self.saw("refused for its text after no more records than there is room for, or after more", (records > room).into());
         self.saw(wrong(text, place, part), kind as i64);
+    }
+
+    fn saw_where(&mut self, text: &[u8], place: usize) {
+        let (inside, end) = (place > 0, place == text.len());
+        self.saw("refused for its text at the front, inside, or at the end", i64::from(inside) + i64::from(end));
     }
 }
 
@@ -525,7 +590,7 @@ impl Call<'_> {
         let number = crate::tested(self.block);
         let mut b = Lent::new(self.block);
         let got = self.lib.tested(b.lend());
-        self.agree(got, number, 0, &[(&b, self.block)], String::new())?;
+        self.agree(got, number, 0, &[b.is(self.block)], String::new())?;
         Ok(self.block.to_vec())
     }
 
@@ -541,7 +606,7 @@ impl Call<'_> {
         let mut b = Lent::new(bytes);
         let got = lib(self.lib, b.lend());
         let words = format!("{words} on the first {} bytes", bytes.len());
-        self.agree(got, second.0, second.1, &[(&b, bytes)], words)?;
+        self.agree(got, second.0, second.1, &[b.is(bytes)], words)?;
         self.saw("number of the block that it reads", crate::tested(bytes).into());
         self.saw("bytes that the block has of it", read.filter(|&at| at < bytes.len()).count() as i64);
         Ok(())
@@ -609,8 +674,11 @@ type Door<'a> = &'a dyn Fn(&dyn Library, &[u8]) -> u64;
 
 type Made = fn(&mut Call) -> Result<Vec<u8>, String>;
 
-/// The calls by name, each as often as it is drawn among fourteen.
-const CALLS: [(&str, u64, Made); 10] = [
+/// A call by name, and how often it is drawn.
+type Often = (&'static str, u64, Made);
+
+/// The calls, each as often as it is drawn among 23.
+const CALLS: [Often; 16] = [
     ("make", 1, |call| call.make()),
     ("message", 3, |call| call.message()),
     ("rights", 2, |call| call.rights()),
@@ -621,19 +689,46 @@ const CALLS: [(&str, u64, Made); 10] = [
     ("size", 1, |call| call.size()),
     ("record", 1, |call| call.record()),
     ("count", 1, |call| call.count()),
+    ("directory", 1, |call| call.directory()),
+    ("message_by", 3, |call| call.message_by()),
+    ("rights_by", 1, |call| call.rights_by()),
+    ("may_by", 1, |call| call.may_by()),
+    ("write_by", 1, |call| call.write_by()),
+    ("read_by", 2, |call| call.read_by()),
 ];
 
-/// Makes one call on the block; the block that the next is made on.
-fn one_call(lib: &dyn Library, rng: &mut Rng, tally: &mut Tally, block: &[u8], index: &Index) -> Result<Vec<u8>, String> {
-    let mut drawn = rng.below(CALLS.iter().map(|call| call.1).sum());
-    for (name, often, made) in CALLS {
-        if drawn < often {
-            let mut call = Call { lib, rng, tally, name, block, index };
-            return made(&mut call).map_err(|what| format!("{what}\nblock {block:02x?}"));
+/// One of the calls, drawn.
+fn drawn(rng: &mut Rng, calls: &[Often]) -> Often {
+    let mut drawn = rng.below(calls.iter().map(|call| call.1).sum());
+    for &call in calls {
+        if drawn < call.1 {
+            return call;
         }
-        drawn -= often;
+        drawn -= call.1;
     }
     unreachable!("a call is drawn")
+}
+
+/// The calls of one case: the library, the block and the directory that the calls before left, and whether that directory is to
+/// be lent.
+struct Case<'a> {
+    lib: &'a dyn Library,
+    rng: &'a mut Rng,
+    tally: &'a mut Tally,
+    block: Vec<u8>,
+    kept: Vec<u16>,
+    keeping: bool,
+}
+
+impl Case<'_> {
+    /// Makes one of these calls on the block, which has these records or is like one that has. The next is made on what it left.
+    fn one(&mut self, index: &Index, calls: &[Often]) -> Result<(), String> {
+        let (name, _, made) = drawn(self.rng, calls);
+        let Case { lib, rng, tally, block, kept, keeping } = self;
+        let mut call = Call { lib: *lib, rng, tally, name, block, index, kept, keeping: *keeping };
+        self.block = made(&mut call).map_err(|what| format!("{what}\nblock {block:02x?}"))?;
+        Ok(())
+    }
 }
 
 /// The records of a block; none where it is not good.
@@ -643,14 +738,19 @@ fn index_of(block: &[u8]) -> Index {
 
 /// A block, some calls one after the other, and one more on the block with one fault.
 fn one_case(lib: &dyn Library, rng: &mut Rng, tally: &mut Tally) -> Result<(), String> {
-    let mut block = if rng.one_in(40) { gen::bytes(rng, 120) } else { gen::index(rng).encode() };
-    for _ in 0..1 + rng.below(8) {
-        block = one_call(lib, rng, tally, &block, &index_of(&block))?;
+    let block = if rng.one_in(40) { gen::bytes(rng, 120) } else { gen::index(rng).encode() };
+    let kept = index_of(&block).directory();
+    let mut case = Case { lib, rng, tally, block, kept, keeping: false };
+    if case.rng.one_in(20) {
+        return case.stream();
     }
-    if rng.one_in(3) && block.len() >= HEADER {
-        let index = index_of(&block);
-        gen::damage(rng, &mut block);
-        one_call(lib, rng, tally, &block, &index)?;
+    for _ in 0..1 + case.rng.below(12) {
+        case.one(&index_of(&case.block), &CALLS)?;
+    }
+    if case.block.len() >= HEADER {
+        let index = index_of(&case.block);
+        gen::damage(case.rng, &mut case.block);
+        case.one(&index, &CALLS)?;
     }
     Ok(())
 }

@@ -2,7 +2,7 @@
 
 use crate::{letters, text, Counts, Index};
 use crate::{ALL, CHAIN, COUNTS, F, GREATEST, HALF, HALVES, HEADER, KINDS, LAST, LETTERS};
-use crate::{M, MESSAGE, NAMES, P, RECORD, RIGHTS, ROOM};
+use crate::{ENTRIES, M, MESSAGE, NAMES, P, PART_ENTRIES, RECORD, RIGHTS, ROOM};
 use std::collections::BTreeMap;
 
 /// A small seeded generator (splitmix64).
@@ -269,7 +269,7 @@ pub fn bytes(rng: &mut Rng, most: u64) -> Vec<u8> {
 fn known(rng: &mut Rng, index: &Index, kind: usize) -> (u16, u16) {
     let part = &index.parts[kind];
     if part.is_empty() || rng.one_in(5) {
-        (rng.below(12) as u16, rng.below(12) as u16)
+        (name(rng, 12), name(rng, 12))
     } else {
         *part.keys().nth(rng.below(part.len() as u64) as usize).expect("a record")
     }
@@ -319,6 +319,7 @@ pub fn number(rng: &mut Rng, limit: u64) -> u64 {
         2 => (1 << 32) + rng.below(limit),
         3 => u64::MAX,
         4 => rng.below(limit),
+        5 => limit - 1,
         _ => rng.below(limit.min(12)),
     }
 }
@@ -362,6 +363,73 @@ pub fn question(rng: &mut Rng, index: &Index) -> (u64, u64) {
     let &(object, user) = grants.keys().nth(rng.below(grants.len() as u64) as usize).expect("a record");
     let object = if object == 0 { any(rng) } else { before(rng, index, object) };
     (before(rng, index, user), object)
+}
+
+/// Whose a directory is: the block's own, one that was the block's own before, another block's, or no block's.
+#[derive(Clone, Copy)]
+pub enum Whose {
+    Own,
+    Before,
+    Another,
+    None,
+}
+
+/// A directory to lend.
+pub struct Directory {
+    pub entries: Vec<u16>,
+    pub whose: Whose,
+}
+
+/// The directory of the block more often than not; else the one that was kept, that of another block, or one that is wrong in
+/// some way.
+pub fn directory(rng: &mut Rng, index: &Index, kept: &[u16]) -> Directory {
+    let (entries, whose) = match rng.below(12) {
+        0 => (kept.to_vec(), Whose::Before),
+        1 => (another(rng, index).directory(), Whose::Another),
+        2..=4 => (damaged(rng, index), Whose::None),
+        _ => (index.directory(), Whose::Own),
+    };
+    Directory { entries, whose }
+}
+
+/// Another block: with a record more, with one less, or with some records of its own.
+fn another(rng: &mut Rng, index: &Index) -> Index {
+    let mut other = if rng.one_in(3) { Index::empty(0) } else { index.clone() };
+    let kind = rng.below(KINDS as u64) as usize;
+    let record = known(rng, index, kind);
+    if other.parts[kind].remove(&record).is_none() {
+        for _ in 0..rng.pick(&[1, 1, 1, 5]) {
+            insert(rng, &mut other, NAMES.into());
+        }
+    }
+    other
+}
+
+/// The directory of the block with one fault, of any kind that a directory can have; now and then it is none.
+fn damaged(rng: &mut Rng, index: &Index) -> Vec<u16> {
+    let mut entries = index.directory();
+    let (kind, any) = (rng.below(KINDS as u64) as usize, rng.bits() as u16);
+    let part = PART_ENTRIES * kind;
+    match rng.below(14) {
+        0 => drop(entries.pop()),
+        1 => entries.push(if rng.one_in(2) { entries[ENTRIES - 1] } else { any }),
+        2 => entries.truncate(rng.below(ENTRIES as u64) as usize),
+        3 => entries.clear(),
+        4 => entries.extend_from_within(..1 + rng.below(ENTRIES as u64) as usize),
+        5 => {
+            let other = PART_ENTRIES * ((kind + 1) % KINDS);
+            (0..PART_ENTRIES).for_each(|n| entries.swap(part + n, other + n));
+        }
+        6 => entries.copy_within(part + 1..part + PART_ENTRIES, part),
+        7 => entries.iter_mut().for_each(|entry| *entry = rng.bits() as u16),
+        _ => {
+            let (key, other) = (known(rng, index, kind).0, rng.below(NAMES.into()) as u16);
+            let at = part + usize::from(rng.pick(&[0, NAMES, key, key + 1, other]));
+            let (one, record) = (1u16, RECORD as u16);
+            entries[at] = entries[at].wrapping_add(rng.pick(&[one, one.wrapping_neg(), record, record.wrapping_neg(), any]));
+        }
+    }
+    entries
 }
 
 /// A text: of a set of the block, of a set of its own, or one that is wrong in some way.

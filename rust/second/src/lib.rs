@@ -5,12 +5,14 @@
 use std::collections::{BTreeMap, BTreeSet};
 use std::sync::LazyLock;
 
+mod directory;
 pub mod drive;
 mod examined;
 pub mod gen;
 mod growth;
 mod sides;
 
+pub use directory::{directory, may_by, message_by, read_by, rights_by, write_by, ENTRIES, PART_ENTRIES};
 use examined::examined;
 
 /// The letters that a record counts, in their order: the rights, then the denial of each.
@@ -126,7 +128,7 @@ impl Index {
         let mut index = Index::empty(block.len());
         let mut at = HEADER;
         for (kind, part) in index.parts.iter_mut().enumerate() {
-            let mut last = None;
+            let (mut last, mut records) = (None, Vec::new());
             for _ in 0..word(block, 2 * kind) {
                 if at + RECORD > block.len() {
                     return Err(2);
@@ -140,9 +142,10 @@ impl Index {
                     return Err(2);
                 }
                 last = Some(name);
-                part.insert(name, counts);
+                records.push((name, counts));
                 at += RECORD;
             }
+            *part = records.into_iter().collect();
         }
         if index.encode() == block {
             Ok(index)

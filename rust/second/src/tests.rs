@@ -245,6 +245,143 @@ fn doors() {
     assert_eq!((record(&b[..HEADER], 0), size(&[7], 1), size(&[], 1)), ((0, 0), (0, 7), (0, 0)));
 }
 
+/// The entries of a part of a directory.
+fn entries(directory: &[u16], kind: usize) -> &[u16] {
+    &directory[PART_ENTRIES * kind..][..PART_ENTRIES]
+}
+
+/// The directory of a block.
+fn made(block: &[u8]) -> Vec<u16> {
+    let (number, directory) = directory(block, &[7; ENTRIES]);
+    assert_eq!(number, 0);
+    directory
+}
+
+/// Records of all three parts: two of one key, and of the least and the greatest.
+const KEYED: [(usize, u16, u16, u8); 6] =
+    [(M, 5, 1, 2), (M, 5, 9, 2), (M, 8, 1, 2), (P, 0, 3, 15), (F, 1023, 2, 1), (F, 9, 2, 1)];
+
+#[test]
+fn directory_of_an_empty_block() {
+    assert_eq!((PART_ENTRIES, ENTRIES), (1025, 3075));
+    assert_eq!(made(&empty(0)), [16; 3075]);
+    assert_eq!(made(&empty(4)), [16; 3075]);
+}
+
+#[test]
+fn directory_of_known_records() {
+    let directory = made(&block(7, &KEYED));
+    let at = |kind, numbers: [usize; 8]| numbers.map(|number| entries(&directory, kind)[number]);
+    assert_eq!(at(M, [0, 4, 5, 6, 7, 8, 9, 1024]), [16, 16, 16, 56, 56, 56, 76, 76]);
+    assert_eq!(at(P, [0, 1, 2, 5, 8, 9, 1023, 1024]), [76, 96, 96, 96, 96, 96, 96, 96]);
+    assert_eq!(at(F, [0, 1, 8, 9, 10, 1022, 1023, 1024]), [96, 96, 96, 96, 116, 116, 116, 136]);
+}
+
+/// As the request says it: an entry is the place of the first record whose key is not below its number, or else the part's end.
+#[test]
+fn directories_by_the_first_record() {
+    for seed in 0..200 {
+        let index = gen::index(&mut Rng(seed));
+        let (directory, mut start) = (index.directory(), HEADER);
+        for (kind, part) in index.parts.iter().enumerate() {
+            for (number, &entry) in entries(&directory, kind).iter().enumerate() {
+                let first = part.keys().position(|&(key, _)| usize::from(key) >= number);
+                assert_eq!(usize::from(entry), start + RECORD * first.unwrap_or(part.len()), "seed {seed}, {kind}, {number}");
+            }
+            start += RECORD * part.len();
+        }
+    }
+}
+
+#[test]
+fn directories_made() {
+    let b = block(7, &KEYED);
+    assert_eq!(directory(&b, &made(&b)), (0, made(&b)));
+    for length in [0, 1, ENTRIES - 1, ENTRIES + 1, 2 * ENTRIES] {
+        assert_eq!(directory(&b, &vec![7; length]), (13, vec![7; length]));
+        assert_eq!(directory(&b[..15], &vec![7; length]), (1, vec![7; length]));
+        assert_eq!(directory(&b[..16], &vec![7; length]), (2, vec![7; length]));
+    }
+    assert_eq!(directory(&b[..16], &[7; ENTRIES]), (2, vec![7; ENTRIES]));
+}
+
+/// Directories of the wrong length, and with each entry in turn off by a record or by one.
+fn wrong_directories(own: &[u16]) -> impl Iterator<Item = Vec<u16>> + '_ {
+    let lengths = [vec![], own[..ENTRIES - 1].to_vec(), [own, &own[ENTRIES - 1..]].concat(), [own, own].concat()];
+    let entries = (0..ENTRIES).map(|at| {
+        let mut wrong = own.to_vec();
+        wrong[at] = wrong[at].wrapping_add([1, 20, 65_516, 65_535][at % 4]);
+        wrong
+    });
+    lengths.into_iter().chain(entries)
+}
+
+/// The tests of the block come first, that of the directory next, and then those of the call.
+#[test]
+fn calls_by_a_directory_are_refused_in_order() {
+    let (b, give) = (block(7, &KEYED), permission(None, Some((9, 1, 2))));
+    let own = made(&b);
+    for wrong in wrong_directories(&own) {
+        for m in [&give[..], &[], &permission(None, Some((1024, 1, 2))), &permission(Some((0, 3, 16)), None)] {
+            assert_eq!(message_by(&b, &wrong, m), (13, b.clone(), wrong.clone()));
+        }
+        for (kind, key) in [(1, 5), (0, 5), (1, 1024)] {
+            assert_eq!(read_by(&b, &wrong, kind, key, b"3;m"), (13, 0, b.clone(), wrong.clone()));
+            assert_eq!(write_by(&b, &wrong, kind, key, &[7; 2]), (13, 0, vec![7; 2]));
+        }
+        for (user, request) in [(3, 15), (1024, 15), (3, 0)] {
+            assert_eq!((rights_by(&b, &wrong, user, 0, request), may_by(&b, &wrong, user, 0, request)), ((13, 0), (13, 0)));
+        }
+    }
+    for (number, refused) in [(1, &b[..15]), (2, &b[..16])] {
+        for lent in [&own[..], &[], &own[1..]] {
+            assert_eq!(message_by(refused, lent, &give), (number, refused.to_vec(), lent.to_vec()));
+            assert_eq!(read_by(refused, lent, 0, 5, b""), (number, 0, refused.to_vec(), lent.to_vec()));
+            assert_eq!(write_by(refused, lent, 1, 1024, &[7]), (number, 0, vec![7]));
+            assert_eq!((rights_by(refused, lent, 3, 0, 0), may_by(refused, lent, 3, 0, 0)), ((number, 0), (number, 0)));
+        }
+    }
+}
+
+#[test]
+fn calls_by_their_own_directory() {
+    let b = block(7, &KEYED);
+    let own = made(&b);
+    for (m, number) in [
+        (permission(None, Some((0, 3, 0))), 5),
+        (permission(Some((0, 3, 16)), None), 6),
+        (permission(None, Some((1024, 3, 1))), 4),
+        (vec![], 3),
+    ] {
+        assert_eq!(message_by(&b, &own, &m), (number, b.clone(), own.clone()));
+    }
+    assert_eq!(read_by(&b, &own, 1, 5, b"3;M1"), (9, 4, b.clone(), own.clone()));
+    assert_eq!(read_by(&b, &own, 1, 6, b"1;M;2;M;3;M"), (8, 0, b.clone(), own.clone()));
+    assert_eq!((read_by(&b, &own, 4, 6, b"").0, read_by(&b, &own, 1, 1024, b"").0), (3, 4));
+    assert_eq!(write_by(&b, &own, 1, 5, &[7; 8]), (0, 7, b"1;R;9;R\x07".to_vec()));
+    assert_eq!(write_by(&b, &own, 1, 5, &[7; 6]), (10, 0, vec![7; 6]));
+    assert_eq!((rights_by(&b, &own, 3, 5, ALL), rights_by(&b, &own, 3, 8, 6)), (answer(1, 0, 2), answer(6, 0, 1)));
+    assert_eq!((may_by(&b, &own, 3, 5, 1), may_by(&b, &own, 3, 5, ALL)), ((0, 1), (0, 0)));
+    assert_eq!((rights_by(&b, &own, 1024, 5, ALL), may_by(&b, &own, 3, 5, 0)), ((4, 0), (5, 0)));
+}
+
+#[test]
+fn directories_are_kept_true() {
+    let b = block(7, &KEYED);
+    let moved = permission(Some((0, 3, 15)), Some((1, 3, 15)));
+    let (number, after, directory) = message_by(&b, &made(&b), &moved);
+    assert_eq!((number, entries(&directory, P)[..3].to_vec()), (0, vec![76, 76, 96]));
+    assert_eq!((entries(&directory, M), entries(&directory, F)), (entries(&made(&b), M), entries(&made(&b), F)));
+    let (number, records, after, directory) = read_by(&after, &directory, 1, 6, b"1;M;2;M");
+    assert_eq!((number, records, &directory), (8, 0, &made(&after)));
+    let (number, records, after, directory) = read_by(&after, &directory, 1, 5, b"");
+    assert_eq!((number, records, entries(&directory, M)[..].to_vec()), (0, 0, [vec![16; 9], vec![36; 1016]].concat()));
+    assert_eq!((directory[PART_ENTRIES * P], directory[ENTRIES - 1]), (36, 96));
+    let (number, records, after, directory) = read_by(&after, &directory, 3, 1023, b"1;M;2;M;3;M");
+    assert_eq!((number, records, &directory), (0, 3, &made(&after)));
+    assert_eq!(directory[ENTRIES - 2..], [76, 136]);
+}
+
 #[test]
 fn standing_prints() {
     let input = [

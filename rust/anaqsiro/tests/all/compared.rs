@@ -1,10 +1,11 @@
 //! The safe calls, held against the second program as the archive is.
 
-use anaqsiro::{raw, Block, Held, Kind, Record, Refusal, Rights};
+use anaqsiro::{raw, Block, DirectedBlock, Held, Kind, Record, Refusal, Rights};
 use second::drive::{self, run, Library};
 
 /// The safe calls where the comparison wants a library. What they have no words for goes to the archive itself: a kind that is
-/// none, a request that is not of rights, a record that there is not, and the records of a block that is not good.
+/// none, a request that is not of rights, a record that there is not, the records of a block that is not good, and a place for a
+/// directory that is too long or too short.
 struct Safe;
 
 /// An answer put together again.
@@ -27,6 +28,34 @@ fn on(bytes: &mut [u8], call: impl FnOnce(&mut Block) -> Result<usize, Refusal>)
     let answer = call(&mut block);
     bytes.copy_from_slice(block.bytes());
     packed(answer)
+}
+
+/// A block of these bytes with this directory. Where that is not its own, the block comes back as it was.
+fn directed(block: &[u8], directory: &[u16]) -> Result<DirectedBlock, Refusal> {
+    DirectedBlock::from_parts(Block::from_bytes(block.to_vec()), directory).map_err(|not| {
+        assert_eq!(not.block.bytes(), block);
+        not.refusal
+    })
+}
+
+/// What a call that changes a block by its directory gives; the bytes and the numbers are then those of the two.
+fn on_both(bytes: &mut [u8], directory: &mut [u16], call: impl FnOnce(&mut DirectedBlock) -> Result<usize, Refusal>) -> u64 {
+    packed(directed(bytes, directory).and_then(|mut both| {
+        let answer = call(&mut both);
+        directory.copy_from_slice(both.directory());
+        bytes.copy_from_slice(both.into_block().bytes());
+        answer
+    }))
+}
+
+/// Writing into a buffer, held against the whole text.
+fn written(length: Result<usize, Refusal>, whole: Result<String, Refusal>, out: &[u8]) -> Result<usize, Refusal> {
+    match length {
+        Ok(length) => assert_eq!(whole.expect("a text").as_bytes(), &out[..length]),
+        Err(Refusal::TextLong) => assert!(whole.expect("a text").len() > out.len()),
+        Err(refusal) => assert_eq!(whole, Err(refusal)),
+    }
+    length
 }
 
 /// A record of a good block by its number.
@@ -64,14 +93,7 @@ impl Library for Safe {
             return unsafe { raw::anaqsiro_write(block.as_ptr(), block.len(), kind, key, out.as_mut_ptr(), out.len()) };
         };
         let block = Block::from_bytes(block.to_vec());
-        let length = block.write_set(kind, key, out);
-        let whole = block.set_text(kind, key);
-        match length {
-            Ok(length) => assert_eq!(whole.expect("a text").as_bytes(), &out[..length]),
-            Err(Refusal::TextLong) => assert!(whole.expect("a text").len() > out.len()),
-            Err(refusal) => assert_eq!(whole, Err(refusal)),
-        }
-        packed(length)
+        packed(written(block.write_set(kind, key, out), block.set_text(kind, key), out))
     }
 
     fn read(&self, block: &mut [u8], kind: u64, key: u64, text: &[u8]) -> u64 {
@@ -104,6 +126,62 @@ impl Library for Safe {
         match (record_of(block, number), "MRUPmrup".chars().nth(letter.min(8) as usize)) {
             (Some(record), Some(letter)) => record.count(letter).into(),
             _ => unsafe { raw::anaqsiro_count(block.as_ptr(), block.len(), number, letter) },
+        }
+    }
+
+    fn directory(&self, block: &[u8], directory: &mut [u16]) -> u64 {
+        if directory.len() != DirectedBlock::DIRECTORY {
+            let (numbers, length) = (directory.as_mut_ptr(), directory.len());
+            return unsafe { raw::anaqsiro_directory(block.as_ptr(), block.len(), numbers, length) };
+        }
+        let made = Block::from_bytes(block.to_vec()).with_directory();
+        packed(made.map_err(Refusal::from).map(|both| {
+            directory.copy_from_slice(both.directory());
+            0
+        }))
+    }
+
+    fn message_by(&self, block: &mut [u8], directory: &mut [u16], message: &[u8]) -> u64 {
+        on_both(block, directory, |both| both.apply(message).map(|()| 0))
+    }
+
+    fn rights_by(&self, block: &[u8], directory: &[u16], user: u64, object: u64, request: u64) -> u64 {
+        let (numbers, length) = (directory.as_ptr(), directory.len());
+        match Rights::from_mask(request) {
+            Some(request) => {
+                packed(directed(block, directory).and_then(|both| both.rights(user, object, request).map(value_of)))
+            }
+            None => unsafe { raw::anaqsiro_rights_by(block.as_ptr(), block.len(), numbers, length, user, object, request) },
+        }
+    }
+
+    fn may_by(&self, block: &[u8], directory: &[u16], user: u64, object: u64, request: u64) -> u64 {
+        let (numbers, length) = (directory.as_ptr(), directory.len());
+        match Rights::from_mask(request) {
+            Some(request) => {
+                packed(directed(block, directory).and_then(|both| both.may(user, object, request).map(usize::from)))
+            }
+            None => unsafe { raw::anaqsiro_may_by(block.as_ptr(), block.len(), numbers, length, user, object, request) },
+        }
+    }
+
+    fn write_by(&self, block: &[u8], directory: &[u16], kind: u64, key: u64, out: &mut [u8]) -> u64 {
+        let Some(kind) = Kind::from_number(kind) else {
+            let (numbers, length, text) = (directory.as_ptr(), directory.len(), out.as_mut_ptr());
+            return unsafe { raw::anaqsiro_write_by(block.as_ptr(), block.len(), numbers, length, kind, key, text, out.len()) };
+        };
+        let write = |both: DirectedBlock| written(both.write_set(kind, key, out), both.set_text(kind, key), out);
+        packed(directed(block, directory).and_then(write))
+    }
+
+    fn read_by(&self, block: &mut [u8], directory: &mut [u16], kind: u64, key: u64, text: &[u8]) -> u64 {
+        let (numbers, length) = (directory.as_mut_ptr(), directory.len());
+        match Kind::from_number(kind) {
+            Some(kind) => on_both(block, directory, |both| both.read_set(kind, key, text)),
+            None => unsafe {
+                let (text, text_length) = (text.as_ptr(), text.len());
+                raw::anaqsiro_read_by(block.as_mut_ptr(), block.len(), numbers, length, kind, key, text, text_length)
+            },
         }
     }
 }

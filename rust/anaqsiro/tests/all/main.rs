@@ -3,6 +3,7 @@
 mod blocks;
 mod build;
 mod compared;
+mod directed;
 mod examined;
 mod ledgers;
 mod letters;
