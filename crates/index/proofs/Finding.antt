@@ -1,4 +1,4 @@
--- The search for a record by halves.
+-- The search for a record, by halves or from a record on.
 use Prim.Native.Nat.{ℕ, _+_, _*_, _<_, _≤_}
 use mathlib.Core.Path.{_≡_}
 use mathlib.Core.List.{List}
@@ -37,6 +37,17 @@ module _ {b : List ℕ} (kind : Kind) {want first end : ℕ} (s : first ≡ from
         high = omega (arith, w .middle, w .high);
         below = λ i o h. w .below i (omega arith) h;
         above = λ i o h. w .above i (omega arith) (omega arith);
+      }
+
+  -- Where the search goes on from the first record not below a lower one.
+  pub going-on : {less lo : ℕ} → less ≤ want → Lowest b kind less lo → Between b want first end lo end
+  going-on l w =
+      record {
+        low = omega (arith, w .low);
+        middle = omega (arith, w .high);
+        high = omega arith;
+        below = λ i o h. omega (arith, w .below i (omega (arith, w .high)) h);
+        above = λ i o h. absurd (omega arith);
       }
 
   module _ (g : Good b) {lo hi : ℕ} (mid : ℕ) (l : lo ≤ mid) (h : mid < hi) (w : Between b want first end lo hi) where

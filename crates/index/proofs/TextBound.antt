@@ -12,6 +12,7 @@ use Rattle.index.specs.Block.{place, Sized, Good, records, size, from, k
 use Rattle.index.specs.Text.{Entry, decimal, pieceOf, piecesOf, entryText, textOf, entryAt, setFrom, setOf, IsSet, Writes}
 use Rattle.index.specs.Beginning.{Begins, Place}
 use Rattle.index.specs.Pieces.{nextText}
+use Rattle.index.specs.Written.{entriesFrom}
 use Rattle.index.specs.Longest.{fieldDigits, longestPiece, longestRecord, mostRecords, longestText}
 use Rattle.index.proofs.Bytes.{number-small, count-small}
 use Rattle.index.proofs.Digits.{ten}
@@ -44,17 +45,30 @@ entry-bound e h f =
       pieces-bound letters (e .counts) f,
     )
 
--- A record of a block, whose bytes are bytes, with the `;` before it, where the text has begun.
-pub next-bound : (b : List ℕ) → ((j : ℕ) → getD b j 0 < 256) → (begun : Bool) (i : ℕ) → length (nextText begun (entryAt b i)) ≤ longestRecord
-next-bound b bytes begun i =
-    let e =
-    entry-bound (entryAt b i) (omega (arith, number-small b (place i + 2) bytes))
-    (λ k. omega (arith, counts-any b i k, count-small b i k bytes)) in
-    go begun e
-  where
-    go : (begun : Bool) → length (entryText (entryAt b i)) < longestRecord → length (nextText begun (entryAt b i)) ≤ longestRecord
-    go true e = e
-    go false e = omega arith
+-- Records of a block, whose bytes are bytes.
+module _ (b : List ℕ) (bytes : (j : ℕ) → getD b j 0 < 256) where
+  record-bound : (i : ℕ) → length (entryText (entryAt b i)) < longestRecord
+  record-bound i =
+      entry-bound (entryAt b i) (omega (arith, number-small b (place i + 2) bytes))
+      (λ k. omega (arith, counts-any b i k, count-small b i k bytes))
+
+  -- One, with the `;` before it, where the text has begun.
+  pub next-bound : (begun : Bool) (i : ℕ) → length (nextText begun (entryAt b i)) ≤ longestRecord
+  next-bound true i = record-bound i
+  next-bound false i = omega (arith, record-bound i)
+
+  -- The text of n of them.
+  pub entries-bound : (i n : ℕ) → length (textOf (entriesFrom b i n)) ≤ longestRecord * n
+  unfolding textOf
+  entries-bound i zero = omega arith
+  entries-bound i (suc zero) = omega (arith, record-bound i)
+  entries-bound i (suc (suc n)) =
+      omega (
+        arith,
+        length-append (entryText (entryAt b i)) (59 ∷ textOf (entriesFrom b (i + 1) (suc n))),
+        record-bound i,
+        entries-bound (i + 1) (suc n),
+      )
 
 pub text-bound : {kind : Kind} {es : List Entry} → IsSet kind es → length (textOf es) ≤ longestRecord * length es
 unfolding textOf

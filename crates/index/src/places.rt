@@ -6,9 +6,9 @@ use crate::numbers::id_at;
 use crate::numbers::key_at;
 use crate::numbers::number_at;
 ghost use mathlib.Core.Path.{_≡_};
-ghost use Prim.Native.Nat.{_+_, _<_, _≤_};
+ghost use Prim.Native.Nat.{_+_, _*_, _<_, _≤_};
 ghost use lib.ListN.{length};
-ghost use Rattle.index.specs.Block.{IsName, headerLength, place, from, size, Good};
+ghost use Rattle.index.specs.Block.{nameCount, IsName, headerLength, place, from, size, Good};
 ghost use Rattle.index.specs.Bytes.{Num};
 ghost use Rattle.index.specs.Edits.{Lowest, Finds};
 ghost use Rattle.index.specs.Places.{spot};
@@ -67,6 +67,24 @@ pub(crate) fn place_of(b: &[u8], kind: Kind, want: usize) -> usize
         }
     }
     lo
+}
+
+// The number of the record after those of the kind with this key, of which `first` is the first, or would be. It goes through them, since they
+// are seldom many.
+pub(crate) fn end_of(b: &[u8], kind: Kind, key: usize, first: usize) -> usize
+    requires { ⌜ Good (now b) × Lowest (now b) kind (nameCount * key) first ⌝ }
+    ensures { λ r. ⌜ Lowest (now (b .entry)) kind (nameCount * (key + 1)) r ⌝ }
+{
+    let part = first_of(b, kind);
+    let last = part + size_at(b, kind);
+    let mut end = first;
+    while end < last {
+        if key_at(b, end) != key {
+            break;
+        }
+        end += 1;
+    }
+    end
 }
 
 // The record of this kind, key and id, or where it would be inserted.

@@ -9,11 +9,13 @@ use crate::Wrote;
 use crate::checks::tested;
 use crate::kinds::kind_of;
 use crate::moves::splice;
+use crate::places::end_of;
 use crate::places::first_of;
 use crate::places::place_of;
 use crate::places::size_at;
 use crate::scanning::scan_text;
 use crate::taking::fill;
+use crate::writing::fits;
 use crate::writing::put_set;
 ghost use mathlib.Core.Path.{_≡_};
 ghost use Prim.Native.Nat.{_+_, _≤_};
@@ -54,14 +56,11 @@ pub fn write_set(block: &[u8], kind: u64, key: u64, out: &mut [u8]) -> Wrote
     let kind = kind_of(kind);
     let key = key as usize;
     let first = place_of(block, kind, NAMES * key);
-    let end = place_of(block, kind, NAMES * (key + 1));
-    let mut nothing = [0u8; 0];
-    let n = put_set(&mut nothing, block, first, end);
-    if out.len() < n {
+    let end = end_of(block, kind, key, first);
+    if !fits(block, first, end, out.len()) {
         return Wrote::Refused(10);
     }
-    put_set(out, block, first, end);
-    Wrote::Text(n)
+    Wrote::Text(put_set(out, block, first, end))
 }
 
 // There is room for n records in the place of m.
@@ -89,7 +88,7 @@ pub fn read_set(block: &mut [u8], kind: u64, key: u64, text: &[u8]) -> Took
         return scanned;
     };
     let first = place_of(block, kind, NAMES * key);
-    let old = place_of(block, kind, NAMES * (key + 1)) - first;
+    let old = end_of(block, kind, key, first) - first;
     if !has_room(block, old, n) {
         return Took::Refused(8);
     }

@@ -6,14 +6,19 @@ use crate::LETTER_COUNT;
 use crate::letters::letter_at;
 use crate::numbers::count_at;
 use crate::numbers::id_at;
+ghost use mathlib.Core.Path.{_≡_};
 ghost use mathlib.Core.List.{[], _∷_};
 ghost use Prim.Native.Nat.{_+_, _-_, _<_, _≤_};
+ghost use lib.Dec.{leb};
 ghost use lib.ListN.{length, getD};
 ghost use Rattle.index.specs.Letters.{letterCount, letters};
 ghost use Rattle.index.specs.Block.{greatestLength, place};
 ghost use Rattle.index.specs.Text.{decimal, pieceOf, piecesOf, countsAt, entryAt, entryText, textOf};
 ghost use Rattle.index.specs.Pieces.{nextText};
 ghost use Rattle.index.specs.Written.{Puts, entriesFrom};
+
+// No record has a longer text, with the `;` before the next one: an id and eight counts have at most five digits each.
+const LONGEST_RECORD: usize = 5 + 1 + 6 * LETTER_COUNT + 1;
 
 fn put_byte(out: &mut [u8], at: usize, byte: u8) -> usize
     requires { ⌜ at < 1000000 ⌝ }
@@ -101,4 +106,16 @@ pub(crate) fn put_set(out: &mut [u8], b: &[u8], first: usize, end: usize) -> usi
         i += 1;
     }
     at
+}
+
+// The text of that set has at most n bytes. Where so many records can not have a longer one, it is not written out to be measured.
+pub(crate) fn fits(b: &[u8], first: usize, end: usize, n: usize) -> bool
+    requires { ⌜ (first ≤ end) × (place end ≤ length (now b)) × (length (now b) ≤ greatestLength) ⌝ }
+    ensures { λ r. ⌜ r ≡ leb (length (textOf (entriesFrom (now (b .entry)) first (end - first)))) n ⌝ }
+{
+    if LONGEST_RECORD * (end - first) <= n {
+        return true;
+    }
+    let mut nothing = [0u8; 0];
+    put_set(&mut nothing, b, first, end) <= n
 }

@@ -563,6 +563,14 @@ fn put_set(b: &[u8], lo: usize, hi: usize, out: &mut [u8]) -> usize {
     out.at
 }
 
+/// No record has a longer text, with the `;` after it: an id of four digits, and eight letters with counts of five.
+const LONGEST: usize = 4 + 1 + 6 * LETTERS.len() + 1;
+
+/// Whether the text of the set has at most so many bytes. It is measured only where the number of its records does not tell.
+fn fits(b: &[u8], lo: usize, hi: usize, room: usize) -> bool {
+    LONGEST * (hi - lo) <= room || put_set(b, lo, hi, &mut []) <= room
+}
+
 pub fn write(b: &[u8], kind: u64, key: u64, out: &mut [u8]) -> (u32, u32) {
     sound(b).map_or_else(|number| (number, 0), |()| write_with(b, &Search, kind, key, out))
 }
@@ -572,12 +580,10 @@ fn write_with(b: &[u8], keys: &impl Find, kind: u64, key: u64, out: &mut [u8]) -
     match set_bounds(b, keys, kind, key) {
         Err(number) => (number, 0),
         Ok((_, lo, hi)) => {
-            let length = put_set(b, lo, hi, &mut []);
-            if length > out.len() {
+            if !fits(b, lo, hi, out.len()) {
                 return (10, 0);
             }
-            put_set(b, lo, hi, out);
-            (0, length as u32)
+            (0, put_set(b, lo, hi, out) as u32)
         }
     }
 }

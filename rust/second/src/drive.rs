@@ -37,8 +37,14 @@ pub fn packed(number: u32, value: u32) -> u64 {
     u64::from(number) << 32 | u64::from(value)
 }
 
-/// No text is longer: an id of four digits, counts of five, and a semicolon after each of the two.
-pub const TEXT: usize = NAMES as usize * (4 + 1 + 6 * LETTERS.len() + 1);
+/// No record has a longer text: an id of four digits, counts of five, and a semicolon after each of the two.
+const RECORD_TEXT: usize = 4 + 1 + 6 * LETTERS.len() + 1;
+
+/// No text is longer.
+pub const TEXT: usize = NAMES as usize * RECORD_TEXT;
+
+/// Of a buffer that a text fits into.
+const ANY_TEXT: &str = "room for the longest text of as many records, or for less";
 
 const GUARD: usize = 64;
 const FRONT: u8 = 0xA5;
@@ -124,6 +130,7 @@ const TO_MEET: &[(&str, &str, &[i64])] = &[
     ("write", "kind accepted, with an empty text", &[1, 2, 3]),
     ("write", "kind accepted, with a text", &[1, 2, 3]),
     ("write", "bytes of room over a text", &[-1, 0]),
+    ("write", ANY_TEXT, &[0, 1]),
     ("read", "number", &[0, 1, 2, 3, 4, 8, 9]),
     ("read", "kind accepted, with an empty text", &[1, 2, 3]),
     ("read", "kind accepted, with a text", &[1, 2, 3]),
@@ -459,10 +466,11 @@ impl Call<'_> {
     /// How long the text of a set is, and a buffer that it may fit into.
     fn out(&mut self, kind: u64, key: u64) -> (usize, Vec<u8>) {
         let full = crate::write(self.block, kind, key, &[0; TEXT]).1 as usize;
-        let room = match self.rng.below(4) {
+        let room = match self.rng.below(5) {
             0 => full,
             1 => full.saturating_sub(1),
             2 => full + self.rng.below(5) as usize,
+            3 => full + self.rng.below(4 * RECORD_TEXT as u64) as usize,
             _ => self.rng.below(64) as usize,
         };
         (full, (0..room).map(|_| self.rng.bits() as u8).collect())
@@ -476,17 +484,21 @@ impl Call<'_> {
         let got = self.lib.write(b.lend(), kind, key, lent.lend());
         let words = format!("{kind} {key} into {}", out.len());
         self.agree(got, number, value, &[b.is(self.block), lent.is(&after)], words)?;
-        self.saw_write(number, kind, full, out.len());
+        self.saw_write(number, kind, full, &after);
         Ok(self.block.to_vec())
     }
 
-    /// What a write of a text so long into so much room did.
-    fn saw_write(&mut self, number: u32, kind: u64, full: usize, room: usize) {
+    /// What a write of a text so long did, and the buffer then.
+    fn saw_write(&mut self, number: u32, kind: u64, full: usize, out: &[u8]) {
         if number == 0 {
             self.saw_set(kind, full);
         }
-        if full > 0 && (room == full || room == full - 1) {
-            self.saw("bytes of room over a text", room as i64 - full as i64);
+        if number == 0 && full > 0 {
+            let records = out[..full].iter().filter(|&&byte| byte == b';').count().div_ceil(2);
+            self.saw(ANY_TEXT, i64::from(out.len() < records * RECORD_TEXT));
+        }
+        if full > 0 && (out.len() == full || out.len() == full - 1) {
+            self.saw("bytes of room over a text", out.len() as i64 - full as i64);
         }
     }
 

@@ -1,7 +1,7 @@
 //! The directory of keys and the calls by one, held against the second program. Beside each stands the library's own call
 //! without a directory: by the block's own directory it has to give the same.
 
-use super::{index_of, Ask, Call, Case, Lent, Library, CALLS};
+use super::{index_of, Ask, Call, Case, Lent, Library, ANY_TEXT, CALLS};
 use crate::gen::{self, Directory, Whose};
 use crate::{binding, letters, set_of, word, ENTRIES, HALF, HALVES, KINDS, NAMES, PART_ENTRIES, RECORD};
 
@@ -37,6 +37,7 @@ pub const TO_MEET: &[(&[&str], &str, &[i64])] = &[
     (READ, "13 where the call without it gives", &[0, 3, 4, 8, 9]),
     (WRITE, "number", &[0, 1, 2, 3, 4, 10, 13]),
     (WRITE, "bytes of room over a text", &[-1, 0]),
+    (WRITE, ANY_TEXT, &[0, 1]),
     (WRITE, "13 where the call without it gives", &[0, 3, 4, 10]),
     (SETS, "kind accepted, with an empty text", &[1, 2, 3]),
     (SETS, "kind accepted, with a text", &[1, 2, 3]),
@@ -166,7 +167,7 @@ impl Call<'_> {
             self.saw_looked_up(kind, key);
         }
         if number == 0 || number == 10 {
-            self.saw_write(number, kind, full, out.len());
+            self.saw_write(number, kind, full, &after);
         }
         Ok(self.block.to_vec())
     }

@@ -55,33 +55,33 @@ unfolding Writes
 few c = let (es, w, e) = scanned c in omega (arith, set-few (w .0))
 
 -- The old set stands between two places.
-abbrev after-n : tie.After-place-of2 → tie.After-scanned
+abbrev after-n : tie.After-end-of → tie.After-scanned
 after-n c = c .before .before .before .before .before
 
-abbrev now-ready : (c : tie.After-place-of2) → Held (block (passed (after-n c))) (start (passed (after-n c)) .args .kind) (start (passed (after-n c)) .args .key)
+abbrev now-ready : (c : tie.After-end-of) → Held (block (passed (after-n c))) (start (passed (after-n c)) .args .kind) (start (passed (after-n c)) .args .key)
 now-ready c = ready (passed (after-n c))
 
-abbrev first : tie.After-place-of2 → ℕ
+abbrev first : tie.After-end-of → ℕ
 first c = c .before .before .place-of .result
 
-old-long : (c : tie.After-place-of2) → length (setOf (block (passed (after-n c))) (kind (after-n c)) (start (passed (after-n c)) .args .key)) ≡ c .place-of2 .result - first c
-old-long c = set-long (now-ready c .good) _ _ _ _ (c .before .before .place-of .ensures) (c .place-of2 .ensures)
+old-long : (c : tie.After-end-of) → length (setOf (block (passed (after-n c))) (kind (after-n c)) (start (passed (after-n c)) .args .key)) ≡ c .end-of .result - first c
+old-long c = set-long (now-ready c .good) _ _ _ _ (c .before .before .place-of .ensures) (c .end-of .ensures)
 
-within : (c : tie.After-place-of2) → (first c ≤ c .place-of2 .result) × (c .place-of2 .result ≤ records (block (passed (after-n c)))) × (place (records (block (passed (after-n c)))) ≤ length (block (passed (after-n c)))) × (length (block (passed (after-n c))) ≤ greatestLength)
+within : (c : tie.After-end-of) → (first c ≤ c .end-of .result) × (c .end-of .result ≤ records (block (passed (after-n c)))) × (place (records (block (passed (after-n c)))) ≤ length (block (passed (after-n c)))) × (length (block (passed (after-n c))) ≤ greatestLength)
 unfolding Sized
 within c = (
-  bounds (now-ready c .good) _ _ _ _ (c .before .before .place-of .ensures) (c .place-of2 .ensures),
-  gap-in (kind (after-n c)) (block (passed (after-n c))) (c .place-of2 .result) (c .place-of2 .ensures .high),
+  bounds (now-ready c .good) _ _ _ _ (c .before .before .place-of .ensures) (c .end-of .ensures),
+  gap-in (kind (after-n c)) (block (passed (after-n c))) (c .end-of .result) (c .end-of .ensures .high),
   now-ready c .good .fits,
   now-ready c .sized .1,
 )
 
 -- There is room.
-abbrev bounded : tie.Else2 → tie.After-place-of2
+abbrev bounded : tie.Else2 → tie.After-end-of
 bounded c = c .before .before .before
 
 abbrev old : tie.Else2 → ℕ
-old c = bounded c .place-of2 .result - first (bounded c)
+old c = bounded c .end-of .result - first (bounded c)
 
 roomy : (c : tie.Else2)
     → records (block (passed (after-n (bounded c)))) + after-n (bounded c) .scanned .given .0 .0 ≤ room (block (passed (after-n (bounded c)))) + old c
@@ -96,7 +96,7 @@ opens c =
       short = w .3;
       good = now-ready (bounded c) .good;
       low = bounded c .before .before .place-of .ensures .low;
-      high = omega (arith, bounded c .place-of2 .ensures .high);
+      high = omega (arith, bounded c .end-of .ensures .high);
       inside = omega arith;
       room = omega arith;
     }
@@ -125,7 +125,7 @@ unfolding Writes
 returns-4 c =
     took-set _ _ _ _ (all (c .before .before .before .before .before .before .before .before .before .before .before .before .before .before .before .before .before .before .before .before)) _ (c .before .before .before .before .before .before .before .before .before .before .before .before .before .before .before .before .before .before .before .kind-of .ensures) (scanned (c .before .before .before .before .before .before .before .before .before .before .before .before .before .before .before .before)) (old-long (c .before .before .before .before .before .before .before .before .before .before .before)) (roomy (c .before .before .before .before .before .before .before .before))
     (λ es w e.
-    replaced (ready (c .before .before .before .before .before .before .before .before .before .before .before .before .before .before .before .before .before .before .before .before) .good) _ _ _ _ (c .before .before .before .before .before .before .before .before .before .before .before .before .before .place-of .ensures) (c .before .before .before .before .before .before .before .before .before .before .before .place-of2 .ensures) es (w .0) (ready (c .before .before .before .before .before .before .before .before .before .before .before .before .before .before .before .before .before .before .before .before) .named) _ e (c .before .before .before .before .before .before .splice .ensures) (c .before .before .fill .ensures es w) (λ t. omega (arith, c .slice-known3 .given t)))
+    replaced (ready (c .before .before .before .before .before .before .before .before .before .before .before .before .before .before .before .before .before .before .before .before) .good) _ _ _ _ (c .before .before .before .before .before .before .before .before .before .before .before .before .before .place-of .ensures) (c .before .before .before .before .before .before .before .before .before .before .before .end-of .ensures) es (w .0) (ready (c .before .before .before .before .before .before .before .before .before .before .before .before .before .before .before .before .before .before .before .before) .named) _ e (c .before .before .before .before .before .before .splice .ensures) (c .before .before .fill .ensures es w) (λ t. omega (arith, c .slice-known3 .given t)))
 
 pub read-set-spec : {M : Type 1} → statement M
 read-set-spec =
@@ -141,9 +141,7 @@ read-set-spec =
     returns-2
     (λ c. omega (arith, ready (passed (c .before .before)) .named))
     (λ c κs. ready (passed (c .before .before)) .good)
-    (λ c. omega (arith, ready (passed (c .before .before .before .before)) .named))
-    (λ c. omega (arith, ready (passed (c .before .before .before .before)) .named))
-    (λ c κs. ready (passed (c .before .before .before .before)) .good)
+    (λ c κs. (ready (passed (c .before .before .before .before)) .good, c .before .place-of .ensures))
     (λ c. omega (arith, within c))
     (λ c κs. omega (arith, within (c .before), few (after-n (c .before))))
     (λ c. search needs)
