@@ -17,8 +17,8 @@
  * - DENIALS DO NOT REACH ACROSS RECORDS. "No read" takes read out of the one permission record that it stands in; another one
  *   may still give it, to a group of the same user or on a group of the same object.
  * - A CHANGE WITHOUT THE DIRECTORY LEAVES IT BEHIND. Who keeps one changes the block by anaqsiro_message_by and
- *   anaqsiro_read_by, or makes it again after other changes. Where such a change left some key more or fewer records than it
- *   had, calls by the directory are refused with 13 until it is made again.
+ *   anaqsiro_read_by, or makes it again after other changes. Where such a change left some key with more or fewer records than
+ *   it had, calls by the directory are refused with 13 until it is made again.
  *
  * No call keeps anything between calls, allocates, or touches memory other than the bytes it is lent and its own stack. So
  * several threads may call at once, as long as no block or buffer that one of them writes is used by another. Two buffers of
@@ -168,11 +168,11 @@ uint64_t anaqsiro_read(uint8_t *block, size_t len, uint64_t kind, uint64_t key, 
  * entry of a part is where that kind's records end.
  *
  * - It belongs to one block. The block's own directory is the one that anaqsiro_directory would make of it as it stands.
- * - Each call by it tests all of it, after the block: one of another length, or with any other entry, is refused with 13. So a
- *   wrong directory gives no wrong answer.
+ * - Each call by it tests all of it: one of another length, or with any other entry, is refused with 13, right after 1 and 2 of
+ *   the block. So a wrong directory gives no wrong answer.
  * - anaqsiro_message_by and anaqsiro_read_by change it with the block. The other calls by it only read it.
- * - A call without it does not know it. After an anaqsiro_make, anaqsiro_message or anaqsiro_read that left some key more or
- *   fewer records than it had, the directory is no longer the block's own, and calls by it are refused until it is made again.
+ * - A call without it does not know it. After an anaqsiro_make, anaqsiro_message or anaqsiro_read that left some key with more
+ *   or fewer records than it had, the directory is no longer the block's own, and calls by it are refused until it is made again.
  * - No answer needs it. It is for hosts that ask much of large blocks; others do without. */
 
 /* Writes the block's own directory, whatever stood there before. Numbers 0, 1, 2, 13, which is for its length alone. Value 0. */

@@ -1,7 +1,7 @@
--- M-106: "Answers through the directory are proved equal to answers without it, once over all three parts." And 13 is tested right after 2.
+-- M-106: "Answers through the directory are proved equal to answers without it, once over all three parts."
 use Prim.Native.Nat.{ℕ}
 use mathlib.Core.Path.{_≡_, ap}
-use mathlib.Core.List.{List, _∷_, _++_}
+use mathlib.Core.List.{List}
 use mathlib.Core.Logic.{_↔_, inl, inr}
 use native.Mathlib.Omega.{arith}
 use Rattle.index.specs.declared.Wrote.{Wrote}
@@ -18,29 +18,6 @@ use Rattle.directory.proofs.Passing.{Tests, read-tests, write-tests}
 use Rattle.directory.proofs.Keeping.{Valued, valued-tests}
 
 module _ {O : Type 0} (b d : List ℕ) (refused : ℕ → O) where
-  -- Of a call with the requirements ts after those of the block: one list of requirements, with 13 right after 2.
-  module _ (ts : List (ℕ × Type 0)) (accepted : O → Type 0) (o : O) where
-    pub in-order : By b d refused (First refused (blockNeeds b ++ ts) accepted) o
-        ↔ First refused (blockNeeds b ++ ((13, Own b d) ∷ ts)) accepted o
-    unfolding By directoryNeeds blockNeeds
-    in-order = (there, back)
-      where
-        there : By b d refused (First refused (blockNeeds b ++ ts) accepted) o
-            → First refused (blockNeeds b ++ ((13, Own b d) ∷ ts)) accepted o
-        there (inl p) = inl p
-        there (inr (s, inl p)) = inr (s, inl p)
-        there (inr (s, inr (g, inl p))) = inr (s, inr (g, inl p))
-        there (inr (s, inr (g, inr (w, inl p)))) = absurd (p .0 s)
-        there (inr (s, inr (g, inr (w, inr (s′, inl p))))) = absurd (p .0 g)
-        there (inr (s, inr (g, inr (w, inr (s′, inr (g′, p)))))) = inr (s, inr (g, inr (w, p)))
-
-        back : First refused (blockNeeds b ++ ((13, Own b d) ∷ ts)) accepted o
-            → By b d refused (First refused (blockNeeds b ++ ts) accepted) o
-        back (inl p) = inl p
-        back (inr (s, inl p)) = inr (s, inl p)
-        back (inr (s, inr (g, inl p))) = inr (s, inr (g, inl p))
-        back (inr (s, inr (g, inr (w, p)))) = inr (s, inr (g, inr (w, inr (s, inr (g, p)))))
-
   -- On every input on which 13 is not given, what comes of a call by the directory comes of the call without it.
   module _ (Call : O → Type 0) (tests : Tests b refused Call) (o : O) where
     pub as-without : (o ≡ refused 13 → ⊥) → By b d refused Call o → Call o

@@ -9,7 +9,7 @@ use Rattle.index.specs.declared.Kind.{Kind}
 use Rattle.index.specs.declared.Kind.the-variants.{Membership, Permission, Filter}
 use Rattle.index.specs.Block.{from, size, place, Good}
 use Rattle.index.proofs.Checked.{each-kind}
-use Rattle.directory.specs.Directory.{partLength, partStart, StartsAt, Begins, Own}
+use Rattle.directory.specs.Directory.{partLength, partStart, StartsAt, BeginsAt, Own}
 use Rattle.directory.specs.Entries.{Entries}
 use Rattle.directory.proofs.Numbered.{keys-rise}
 use Rattle.directory.proofs.Standing.{lowest-of}
@@ -43,7 +43,7 @@ module _ {b : List ℕ} (g : Good b) where
 
   own-part : (kind : Kind) (d : List ℕ) → ((x : ℕ) → x < partLength → getD d (partStart kind + x) 0 ≡ getD (numbers kind) x 0)
       → Entries b d kind
-  unfolding Begins
+  unfolding BeginsAt
   own-part kind d same x h =
       (begins kind x .0, begins kind x .1, same x h ∙ value-at (λ x. place (begins kind x .0)) partLength x h)
 

@@ -9,5 +9,6 @@ pub mod ByEntry
 pub mod Passing
 pub mod Keeping
 pub mod OneBy
+pub mod InOrder
 pub mod AsWithout
 pub mod KeptTrue

@@ -10,7 +10,7 @@ use Rattle.index.specs.declared.Kind.{Kind}
 use Rattle.index.specs.declared.Kind.the-variants.{Membership, Permission, Filter}
 use Rattle.index.specs.Block.{place}
 use Rattle.index.proofs.Range.{lt-or-le}
-use Rattle.directory.specs.Directory.{partLength, directoryLength, partStart, Lowest, Begins, Own}
+use Rattle.directory.specs.Directory.{partLength, directoryLength, partStart, Lowest, BeginsAt, Own}
 
 module _ {b : List ℕ} {lo hi x y i j : ℕ} where
   -- The first record not below a name does not stand after the first not below a higher one.
@@ -25,8 +25,8 @@ module _ {b : List ℕ} {lo hi x y i j : ℕ} where
 pub one-lowest : {b : List ℕ} {lo hi x i j : ℕ} → Lowest b lo hi x i → Lowest b lo hi x j → i ≡ j
 one-lowest p q = omega (arith, lowest-rise (omega arith) p q, lowest-rise (omega arith) q p)
 
-pub one-begins : (b : List ℕ) (kind : Kind) (x : ℕ) {e f : ℕ} → Begins b kind x e → Begins b kind x f → e ≡ f
-unfolding Begins
+pub one-begins : (b : List ℕ) (kind : Kind) (x : ℕ) {e f : ℕ} → BeginsAt b kind x e → BeginsAt b kind x f → e ≡ f
+unfolding BeginsAt
 one-begins b kind x (i, p, e) (j, q, f) = e ∙ ap place (one-lowest p q) ∙ sym f
 
 -- ---- the three parts lie one after the other

@@ -17,7 +17,7 @@ use Rattle.index.specs.Block.{from, size, place, key, Good}
 use Rattle.index.specs.Checks.{Says}
 use Rattle.index.proofs.Checked.{each-kind}
 use Rattle.index.proofs.Range.{lt-or-le}
-use Rattle.directory.specs.Directory.{directoryLength, partStart, entry, Lowest, StartsAt, Begins, Own}
+use Rattle.directory.specs.Directory.{directoryLength, partStart, entry, Lowest, StartsAt, BeginsAt, Own}
 use Rattle.directory.specs.Entries.{Steps, Entries, Right}
 use Rattle.directory.proofs.Numbered.{key-name, keys-rise}
 use Rattle.directory.proofs.OneDirectory.{lowest-rise}
@@ -121,13 +121,13 @@ module _ {b : List ℕ} (g : Good b) (d : List ℕ) (kind : Kind) where
         (eq-or-lt-of-le (p .low))
 
     right-entries : Entries b d kind
-    unfolding Begins
+    unfolding BeginsAt
     right-entries x h =
         let (i, p) = lowest-of b lo (size b kind) x (λ r s l k h. keys-rise g kind r s k (omega arith) (omega arith)) in
         (i, p, omega (arith, no-more x i (omega arith) p, no-less x i (omega arith) p))
 
   entries-right : Entries b d kind → Right b d kind
-  unfolding Begins
+  unfolding BeginsAt
   entries-right own = record {
     rises = record {
       steps =

@@ -12,7 +12,7 @@ use Rattle.index.specs.declared.Kind.the-variants.{Membership, Permission, Filt
 use Rattle.index.specs.Block.{from, size, place, key}
 use Rattle.index.proofs.Checked.{each-kind}
 use Rattle.index.proofs.Range.{lt-or-le}
-use Rattle.directory.specs.Directory.{partLength, directoryLength, partStart, Lowest, Begins, Own}
+use Rattle.directory.specs.Directory.{partLength, directoryLength, partStart, Lowest, BeginsAt, Own}
 use Rattle.directory.specs.Entries.{Outside, Put, Entries, Filled}
 
 -- ---- a run of entries
@@ -123,7 +123,7 @@ through-more {b} {hi = hi} {i = i} rise p h k small put is =
 pub part-filled : {b : List ℕ} (kind : Kind) {lo hi at : ℕ} → lo ≡ from b kind → hi ≡ from b kind + size b kind → at ≡ partStart kind
     → {d₀ d d′ : List ℕ} {x v : ℕ} → Through b lo hi at d₀ d hi x → Put (at + x) (at + partLength) v d d′ → v ≡ place hi
     → Filled b kind d₀ d′
-unfolding Begins
+unfolding BeginsAt
 part-filled {b} kind first last start {x = x} p put is =
     let l : x ≤ partLength = omega (arith, p .named) in
     let places = places-put p l (omega arith) put is (omega arith) (λ j l m. absurd (omega arith)) in

@@ -26,7 +26,8 @@ unfoldable pub By : {O : Type 0} → List ℕ → List ℕ → (ℕ → O) → (
 By b d refused Call o = First refused (directoryNeeds b d) Call o
 
 -- The same of a call that changes the block: the number and the value, the block then, and the directory then. M-106: "A message or a
--- read keeps the directory true". A call that refuses leaves the block as it was, and a block has one directory.
+-- read keeps the directory true". A call that refuses leaves the block as it was, and a block has one directory, so that the directory is then
+-- as it came too.
 unfoldable pub KeptBy : List ℕ → List ℕ → (ℕ × ℕ × List ℕ → Type 0) → (ℕ × ℕ × List ℕ × List ℕ) → Type 0
 KeptBy b d Call o = By b d (λ n. (n, 0, b, d)) (λ o. Call (o .0, o .1, o .2) × Own (o .2) (o .3)) o
 

@@ -40,10 +40,10 @@ StartsAt b kind x i = Lowest b (from b kind) (from b kind + size b kind) x i
 
 -- M-106: "where each key's records begin or would, and the part's end": e is the byte of the block at which that record begins.
 -- In a good block it is the part's end for x = 1024, which no key reaches.
-unfoldable pub Begins : List ℕ → Kind → ℕ → ℕ → Type 0
-Begins b kind x e = (i : ℕ) × StartsAt b kind x i × (e ≡ place i)
+unfoldable pub BeginsAt : List ℕ → Kind → ℕ → ℕ → Type 0
+BeginsAt b kind x e = (i : ℕ) × StartsAt b kind x i × (e ≡ place i)
 
 -- The directory d is "the block's own".
 pub record Own (b d : List ℕ) : Type 0 where
   pub whole : length d ≡ directoryLength
-  pub each : (kind : Kind) (x : ℕ) → x < partLength → Begins b kind x (entry d kind x)
+  pub each : (kind : Kind) (x : ℕ) → x < partLength → BeginsAt b kind x (entry d kind x)

@@ -5,7 +5,7 @@ use mathlib.Core.List.{List}
 use lib.ListN.{length, getD}
 use Rattle.index.specs.declared.Kind.{Kind}
 use Rattle.index.specs.Block.{nameCount, from, size, place, key}
-use Rattle.directory.specs.Directory.{partLength, partStart, entry, Begins}
+use Rattle.directory.specs.Directory.{partLength, partStart, entry, BeginsAt}
 
 -- ---- writing
 
@@ -22,7 +22,7 @@ pub record Put (a e v : ℕ) (d d′ : List ℕ) : Type 0 where
 
 -- All entries of the kind are the block's.
 abbrev pub Entries : List ℕ → List ℕ → Kind → Type 0
-Entries b d kind = (x : ℕ) → x < partLength → Begins b kind x (entry d kind x)
+Entries b d kind = (x : ℕ) → x < partLength → BeginsAt b kind x (entry d kind x)
 
 -- d′ is d but for the entries of the kind, which are the block's.
 pub record Filled (b : List ℕ) (kind : Kind) (d d′ : List ℕ) : Type 0 where

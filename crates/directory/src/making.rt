@@ -25,7 +25,8 @@ fn put(directory: &mut [u16], from: usize, end: usize, value: u16)
     }
 }
 
-// The entries of the kind are written, in one pass over its records: those below x are, and no record before i has a key as high as x.
+// The entries of the kind are written, in one pass over its records. In the loop those below x are, and no record before i has a key as high
+// as x.
 fn fill_part(block: &[u8], directory: &mut [u16], kind: Kind)
     requires { ⌜ Good (now block) × (length (now directory) ≡ directoryLength) ⌝ }
     ensures { λ _. ⌜ Filled (now (block .entry)) kind (now (directory .entry)) (now (directory .exit)) ⌝ }

@@ -1,5 +1,5 @@
-// Writing the text of a set. Each function writes its part at `at`, as far as the buffer reaches, and says where it ends:
-// so on an empty buffer it says how long the text is. What they require of `at` leaves room for what they write, that no
+// Writing the text of a set. Each function but the last writes its part at `at`, as far as the buffer reaches, and says where it
+// ends: so on an empty buffer it says how long the text is. What they require of `at` leaves room for what they write, that no
 // sum wraps.
 
 use crate::LETTER_COUNT;

@@ -15,7 +15,7 @@ use Rattle.index.proofs.GoodTest.{good-test}
 use Rattle.index.proofs.Range.{lt-or-le}
 use Rattle.index.proofs.Records.{of-records, count-at}
 use Rattle.index.proofs.StaysGood.{stays-good}
-use Rattle.directory.specs.Directory.{directoryLength, Begins, Own}
+use Rattle.directory.specs.Directory.{directoryLength, BeginsAt, Own}
 use Rattle.directory.specs.By.{directoryNeeds, makingNeeds, MakesDirectory, By, KeptBy, MessageBy, ReadBy, WriteBy}
 use Rattle.directory.proofs.DirectoryOf.{has-own}
 use Rattle.directory.proofs.Passing.{Tests, read-tests, write-tests}
@@ -144,7 +144,7 @@ fine-one = ((omega arith, omega arith), good-test (reads 1) refl)
 
 -- The P record with the key 9 is below 10: where it is, the records from 10 on begin a record later.
 pub two-owns : (d : List ℕ) → Own nothing d → Own (reads 1) d → ⊥
-unfolding Begins number
+unfolding BeginsAt number
 two-owns d p q =
     let (i, low, e) = p .each Permission 10 (omega arith) in
     let (j, starts, f) = q .each Permission 10 (omega arith) in
@@ -152,7 +152,7 @@ two-owns d p q =
 
 -- A good block with the directory of that block has a P record with the key 9.
 pub owned-nine : (b d : List ℕ) → Good b → Own b d → Own (reads 1) d → (y : ℕ) × (k : ℕ) × (k < letterCount) × (0 < count b Permission 9 y k)
-unfolding Begins number
+unfolding BeginsAt number
 owned-nine b d g p q =
     let (i, low, e) = p .each Permission 9 (omega arith) in
     let (i₁, low₁, e₁) = q .each Permission 9 (omega arith) in

@@ -13,7 +13,7 @@ use Rattle.index.specs.Calls.{blockNeeds, Makes, ReadsSet}
 use Rattle.index.specs.History.{left, others, after, movesOf, tally}
 use Rattle.index.proofs.Firsts.{first-passed, first-sure}
 use Rattle.index.proofs.GoodTest.{good-test}
-use Rattle.directory.specs.Directory.{directoryLength, partStart, Begins, Own}
+use Rattle.directory.specs.Directory.{directoryLength, partStart, BeginsAt, Own}
 use Rattle.directory.specs.By.{directoryNeeds, makingNeeds, MakesDirectory, By, KeptBy, MessageBy, ReadBy, WriteBy}
 use Rattle.directory.proofs.DirectoryOf.{has-own}
 use Rattle.directory.proofs.Keeping.{Left, Valued}
@@ -44,7 +44,7 @@ made-own e d made =
     first-passed {O = ℕ × List ℕ} (λ n. (n, e)) (λ o. (o .0 ≡ 0) × Own nothing (o .1)) (0, d) (λ o. o .0) (λ n. refl) (makingNeeds nothing e) (omega arith) refl made .1 .1
 
 not-blank : (d : List ℕ) → Own nothing d → d ≡ blank-directory → ⊥
-unfolding Begins partStart
+unfolding BeginsAt partStart
 not-blank d own same =
     let (i, low, e) = own .each Membership 0 (omega arith) in
     omega (arith, rw same at e, getD-replicate {A = ℕ} directoryLength (0 + 0) 0 0 (omega arith))

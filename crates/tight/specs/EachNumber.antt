@@ -70,6 +70,7 @@ readNumbers = 0 ∷ 1 ∷ 2 ∷ 3 ∷ 4 ∷ 8 ∷ 9 ∷ []
 abbrev pub questionNumbers : List ℕ
 questionNumbers = 0 ∷ 1 ∷ 2 ∷ 4 ∷ 5 ∷ []
 
+-- M-106: those of the block, and "13", for "the length only".
 abbrev pub directoryNumbers : List ℕ
 directoryNumbers = 0 ∷ 1 ∷ 2 ∷ 13 ∷ []
 

@@ -37,14 +37,17 @@ pub fn packed(number: u32, value: u32) -> u64 {
     u64::from(number) << 32 | u64::from(value)
 }
 
-/// No record has a longer text: an id of four digits, counts of five, and a semicolon after each of the two.
-const RECORD_TEXT: usize = 4 + 1 + 6 * LETTERS.len() + 1;
+/// No text is longer: an id of four digits, counts of five, and a semicolon after each of the two.
+pub const TEXT: usize = NAMES as usize * (4 + 1 + 6 * LETTERS.len() + 1);
 
-/// No text is longer.
-pub const TEXT: usize = NAMES as usize * RECORD_TEXT;
+/// With room for so many bytes a record, the library writes a text that it has not measured.
+const UNMEASURED: usize = 55;
+const OVER_UNMEASURED: &str = "bytes of room over 55 for each record of a text";
 
-/// Of a buffer that a text fits into.
-const ANY_TEXT: &str = "room for the longest text of as many records, or for less";
+/// How much room that is for a text.
+fn unmeasured(text: &[u8]) -> usize {
+    UNMEASURED * text.iter().filter(|&&byte| byte == b';').count().div_ceil(2)
+}
 
 const GUARD: usize = 64;
 const FRONT: u8 = 0xA5;
@@ -130,7 +133,7 @@ const TO_MEET: &[(&str, &str, &[i64])] = &[
     ("write", "kind accepted, with an empty text", &[1, 2, 3]),
     ("write", "kind accepted, with a text", &[1, 2, 3]),
     ("write", "bytes of room over a text", &[-1, 0]),
-    ("write", ANY_TEXT, &[0, 1]),
+    ("write", OVER_UNMEASURED, &[-1, 0]),
     ("read", "number", &[0, 1, 2, 3, 4, 8, 9]),
     ("read", "kind accepted, with an empty text", &[1, 2, 3]),
     ("read", "kind accepted, with a text", &[1, 2, 3]),
@@ -463,42 +466,45 @@ impl Call<'_> {
         self.saw(what, kind as i64);
     }
 
-    /// How long the text of a set is, and a buffer that it may fit into.
-    fn out(&mut self, kind: u64, key: u64) -> (usize, Vec<u8>) {
-        let full = crate::write(self.block, kind, key, &[0; TEXT]).1 as usize;
-        let room = match self.rng.below(5) {
-            0 => full,
-            1 => full.saturating_sub(1),
-            2 => full + self.rng.below(5) as usize,
-            3 => full + self.rng.below(4 * RECORD_TEXT as u64) as usize,
+    /// The text of a set, and a buffer that it may fit into.
+    fn out(&mut self, kind: u64, key: u64) -> (Vec<u8>, Vec<u8>) {
+        let (_, full, mut text) = crate::write(self.block, kind, key, &[0; TEXT]);
+        text.truncate(full as usize);
+        let room = match self.rng.below(6) {
+            0 => text.len(),
+            1 => text.len().saturating_sub(1),
+            2 => text.len() + self.rng.below(5) as usize,
+            3 => unmeasured(&text),
+            4 => unmeasured(&text).saturating_sub(1),
             _ => self.rng.below(64) as usize,
         };
-        (full, (0..room).map(|_| self.rng.bits() as u8).collect())
+        (text, (0..room).map(|_| self.rng.bits() as u8).collect())
     }
 
     fn write(&mut self) -> Result<Vec<u8>, String> {
         let (kind, key) = self.set();
-        let (full, out) = self.out(kind, key);
+        let (text, out) = self.out(kind, key);
         let (number, value, after) = crate::write(self.block, kind, key, &out);
         let (mut b, mut lent) = (Lent::new(self.block), Lent::new(&out));
         let got = self.lib.write(b.lend(), kind, key, lent.lend());
         let words = format!("{kind} {key} into {}", out.len());
         self.agree(got, number, value, &[b.is(self.block), lent.is(&after)], words)?;
-        self.saw_write(number, kind, full, &after);
+        self.saw_write(number, kind, &text, out.len());
         Ok(self.block.to_vec())
     }
 
-    /// What a write of a text so long did, and the buffer then.
-    fn saw_write(&mut self, number: u32, kind: u64, full: usize, out: &[u8]) {
+    /// What a write of a text into so much room did.
+    fn saw_write(&mut self, number: u32, kind: u64, text: &[u8], room: usize) {
         if number == 0 {
-            self.saw_set(kind, full);
+            self.saw_set(kind, text.len());
         }
-        if number == 0 && full > 0 {
-            let records = out[..full].iter().filter(|&&byte| byte == b';').count().div_ceil(2);
-            self.saw(ANY_TEXT, i64::from(out.len() < records * RECORD_TEXT));
+        if text.is_empty() {
+            return;
         }
-        if full > 0 && (out.len() == full || out.len() == full - 1) {
-            self.saw("bytes of room over a text", out.len() as i64 - full as i64);
+        for (what, just) in [("bytes of room over a text", text.len()), (OVER_UNMEASURED, unmeasured(text))] {
+            if room == just || room == just - 1 {
+                self.saw(what, room as i64 - just as i64);
+            }
         }
     }
 

@@ -1,7 +1,7 @@
 //! The directory of keys and the calls by one, held against the second program. Beside each stands the library's own call
 //! without a directory: by the block's own directory it has to give the same.
 
-use super::{index_of, Ask, Call, Case, Lent, Library, ANY_TEXT, CALLS};
+use super::{index_of, Ask, Call, Case, Lent, Library, CALLS, OVER_UNMEASURED};
 use crate::gen::{self, Directory, Whose};
 use crate::{binding, letters, set_of, word, ENTRIES, HALF, HALVES, KINDS, NAMES, PART_ENTRIES, RECORD};
 
@@ -37,7 +37,7 @@ pub const TO_MEET: &[(&[&str], &str, &[i64])] = &[
     (READ, "13 where the call without it gives", &[0, 3, 4, 8, 9]),
     (WRITE, "number", &[0, 1, 2, 3, 4, 10, 13]),
     (WRITE, "bytes of room over a text", &[-1, 0]),
-    (WRITE, ANY_TEXT, &[0, 1]),
+    (WRITE, OVER_UNMEASURED, &[-1, 0]),
     (WRITE, "13 where the call without it gives", &[0, 3, 4, 10]),
     (SETS, "kind accepted, with an empty text", &[1, 2, 3]),
     (SETS, "kind accepted, with a text", &[1, 2, 3]),
@@ -154,7 +154,7 @@ impl Call<'_> {
     pub fn write_by(&mut self) -> Result<Vec<u8>, String> {
         let lent = self.lent();
         let (kind, key) = self.set();
-        let (full, out) = self.out(kind, key);
+        let (written, out) = self.out(kind, key);
         let (number, value, after) = crate::write_by(self.block, &lent.entries, kind, key, &out);
         let (mut b, mut d, mut text) = (Lent::new(self.block), Lent::new(&lent.entries), Lent::new(&out));
         let got = self.lib.write_by(b.lend(), d.lend(), kind, key, text.lend());
@@ -167,7 +167,7 @@ impl Call<'_> {
             self.saw_looked_up(kind, key);
         }
         if number == 0 || number == 10 {
-            self.saw_write(number, kind, full, &after);
+            self.saw_write(number, kind, &written, out.len());
         }
         Ok(self.block.to_vec())
     }
