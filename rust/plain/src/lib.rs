@@ -568,7 +568,7 @@ const LONGEST: usize = 4 + 1 + 6 * LETTERS.len() + 1;
 
 /// Whether the text of the set has at most so many bytes. It is measured only where the number of its records does not tell.
 fn fits(b: &[u8], lo: usize, hi: usize, room: usize) -> bool {
-    LONGEST * (hi - lo) <= room || put_set(b, lo, hi, &mut []) <= room
+    LONGEST * (lo..hi).len() <= room || put_set(b, lo, hi, &mut []) <= room
 }
 
 pub fn write(b: &[u8], kind: u64, key: u64, out: &mut [u8]) -> (u32, u32) {

@@ -90,7 +90,7 @@ const FAULTS: &[(&str, &str, &str)] = &[
     ("a count of 1 is written", "                if n > 1 {", "                if n > 0 {"),
     ("a text that just fits is refused", "&mut []) <= room", "&mut []) < room"),
     ("a text that fits is refused where a longer one of as many records would not", " || put_set(b, lo, hi, &mut []) <= room", ""),
-    ("a text that does not fit is written where a shorter one of as many records would fit", "LONGEST * (hi - lo) <= room", "16 * (hi - lo) <= room"),
+    ("a text that does not fit is written where a shorter one of as many records would fit", "LONGEST * (lo..hi).len() <= room", "16 * (lo..hi).len() <= room"),
     ("a leading zero is read", "(text[start] != b'0' || *at == start + 1)", "(text[start] != b'0' || *at <= start + 2)"),
     ("a count of 1 is read", "bounded(text, &mut at, 2, MOST)?", "bounded(text, &mut at, 1, MOST)?"),
     ("ids need not rise", "        least = id + 1;", "        least = id;"),
