@@ -133,7 +133,7 @@ const FAULTS: &[(&str, &str, &str)] = &[
     ("the last part of a directory is not tested", "directory.chunks_exact(PART).zip(parts(b))", "directory.chunks_exact(PART).zip(parts(b)).take(2)"),
     ("the first entry of P is not tested", "        if !fits(entries, records, start) {", "        let first = if entries.as_ptr() == directory[PART..].as_ptr() { start as u16 } else { entries[0] };\n        if !fits(&[&[first], &entries[1..]].concat(), records, start) {"),
     ("the last entry of a part is not tested", " && usize::from(entries[NAMES]) == at", ""),
-    ("entries may fall", "falls | outside == 0", "outside == 0"),
+    ("entries of P may fall", "        if !fits(entries, records, start) {", "        let mut risen = entries.to_vec();\n        if entries.as_ptr() == directory[PART..].as_ptr() {\n            (1..PART).for_each(|at| risen[at] = risen[at].max(risen[at - 1]));\n        }\n        if !fits(&risen, records, start) {"),
     ("an entry may be too great", "u16::from(usize::from(entries[key]) > at) | ", ""),
     ("an entry may be too small", " | u16::from(usize::from(entries[key + 1]) < end)", ""),
     ("an entry may be less than a record too great", "usize::from(entries[key]) > at", "usize::from(entries[key]) >= end"),
