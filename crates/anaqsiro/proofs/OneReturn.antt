@@ -7,15 +7,15 @@ use Rattle.index.specs.Numbers.{Answers}
 use Rattle.index.specs.Block.{size}
 use Rattle.index.specs.Message.{IsKind, kindOf}
 use Rattle.index.specs.Calls.{blockNeeds, Makes, Message, WritesSet, ReadsSet}
-use Rattle.index.proofs.OneCall.{one-make, one-write, one-read}
-use Rattle.index.proofs.OneDoor.{one-tested}
-use Rattle.index.proofs.OneFirst.{one-first}
-use Rattle.index.proofs.OneMessage.{one-message}
+use Rattle.index.proofs.laws.demands.OneCall.{one-make, one-write, one-read}
+use Rattle.index.proofs.laws.block.OneDoor.{one-tested}
+use Rattle.index.proofs.laws.OneFirst.{one-first}
+use Rattle.index.proofs.laws.message.OneMessage.{one-message}
 use Rattle.directory.specs.By.{MakesDirectory, MessageBy, ReadBy, WriteBy}
 use Rattle.directory.proofs.OneBy.{one-made, one-message-by, one-read-by, one-write-by}
 use Rattle.rights.specs.Questions.{Full, Short, FullBy, ShortBy}
-use Rattle.rights.proofs.OneAnswer.{one-full, one-short}
-use Rattle.rights.proofs.SameAnswers.{one-full-by, one-short-by}
+use Rattle.rights.proofs.laws.questions.OneAnswer.{one-full, one-short}
+use Rattle.rights.proofs.laws.questions.SameAnswers.{one-full-by, one-short-by}
 use Rattle.anaqsiro.specs.Returned.{Packed, Returned, Parts, InParts, MakeReturns, MessageReturns, RightsReturns, MayReturns, WriteReturns, ReadReturns, DirectoryReturns, MessageByReturns, RightsByReturns, MayByReturns, WriteByReturns, ReadByReturns, TestedReturns, SizeReturns, RecordReturns, CountReturns}
 
 -- The number is the upper half of what is returned, and the value the lower.

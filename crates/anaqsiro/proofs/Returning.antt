@@ -13,7 +13,7 @@ use Rattle.rights.specs.declared.Answer.{Answer}
 use Rattle.rights.specs.declared.Answer.the-variants as answer
 use Rattle.rights.specs.Questions.{RightsMean, AnswerMeans}
 use Rattle.anaqsiro.specs.Returned.{Parts, Returned, InParts}
-use Rattle.anaqsiro.specs.Answered.{RightsAs, AnswerAs, WroteAs, TookAs}
+use Rattle.anaqsiro.specs.work.Answered.{RightsAs, AnswerAs, WroteAs, TookAs}
 
 pub rights-returned : (Outcome : ℕ × ℕ × ℕ × ℕ → Type 0) (a : Rights) {r : ℕ} → RightsMean Outcome a → RightsAs a r
     → Returned (InParts Outcome) r

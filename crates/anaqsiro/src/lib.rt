@@ -8,7 +8,7 @@ use rights::Rights;
 ghost use mathlib.Core.Path.{_≡_};
 ghost use Prim.Native.Nat.{_<_};
 ghost use Rattle.anaqsiro.specs.Returned.{Packed, Parts, MakeReturns, MessageReturns, RightsReturns, MayReturns, WriteReturns, ReadReturns, DirectoryReturns, MessageByReturns, RightsByReturns, MayByReturns, WriteByReturns, ReadByReturns, TestedReturns, SizeReturns, RecordReturns, CountReturns};
-ghost use Rattle.anaqsiro.specs.Answered.{RightsFit, RightsAs, AnswerAs, WroteFits, WroteAs, TookFits, TookAs};
+ghost use Rattle.anaqsiro.specs.work.Answered.{RightsFit, RightsAs, AnswerAs, WroteFits, WroteAs, TookFits, TookAs};
 
 // The number and the value as one number.
 fn packed(number: u8, value: u64) -> u64

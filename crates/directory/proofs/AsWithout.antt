@@ -10,8 +10,8 @@ use Rattle.index.specs.declared.Took.{Took}
 use Rattle.index.specs.declared.Took.the-variants as took
 use Rattle.index.specs.Numbers.{First}
 use Rattle.index.specs.Calls.{blockNeeds, Message, WritesSet, ReadsSet, WriteAnswers, ReadAnswers}
-use Rattle.index.proofs.OneMessage.{one-message}
-use Rattle.index.proofs.OneCall.{one-wrote, one-took}
+use Rattle.index.proofs.laws.message.OneMessage.{one-message}
+use Rattle.index.proofs.laws.demands.OneCall.{one-wrote, one-took}
 use Rattle.directory.specs.Directory.{Own}
 use Rattle.directory.specs.By.{directoryNeeds, By, KeptBy, MessageBy, ReadBy, WriteBy, WriteAnswersBy, ReadAnswersBy}
 use Rattle.directory.proofs.Passing.{Tests, read-tests, write-tests}

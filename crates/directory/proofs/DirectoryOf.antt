@@ -8,9 +8,9 @@ use lib.Seq.{getD-append-add}
 use Rattle.index.specs.declared.Kind.{Kind}
 use Rattle.index.specs.declared.Kind.the-variants.{Membership, Permission, Filter}
 use Rattle.index.specs.Block.{from, size, place, Good}
-use Rattle.index.proofs.Checked.{each-kind}
+use Rattle.index.proofs.laws.block.Checked.{each-kind}
 use Rattle.directory.specs.Directory.{partLength, partStart, StartsAt, BeginsAt, Own}
-use Rattle.directory.specs.Entries.{Entries}
+use Rattle.directory.specs.work.Entries.{Entries}
 use Rattle.directory.proofs.Numbered.{keys-rise}
 use Rattle.directory.proofs.Standing.{lowest-of}
 

@@ -14,9 +14,9 @@ use Rattle.index.specs.Block.{Good}
 use Rattle.index.specs.Message.{kindOf}
 use Rattle.index.specs.Calls.{blockNeeds, setNeeds, Message, ReadsText, ReadsSet, ReadAnswers}
 use Rattle.index.proofs.Took.{the-type}
-use Rattle.index.proofs.Firsts.{first-passed}
-use Rattle.index.proofs.StaysGood.{stays-good}
-use Rattle.index.proofs.Unchanged.{message-unchanged, read-unchanged}
+use Rattle.index.proofs.laws.Firsts.{first-passed}
+use Rattle.index.proofs.laws.message.StaysGood.{stays-good}
+use Rattle.index.proofs.laws.demands.Unchanged.{message-unchanged, read-unchanged}
 use Rattle.directory.specs.Directory.{Own}
 use Rattle.directory.specs.By.{directoryNeeds, KeptBy, MessageBy, ReadBy, ReadAnswersBy}
 use Rattle.directory.proofs.Passing.{Tests, by-refused, by-own, message-tests, read-tests}

@@ -6,7 +6,7 @@ use mathlib.Core.List.{List}
 use mathlib.Core.Logic.{inl, inr}
 use native.Mathlib.Omega.{arith}
 use Rattle.index.specs.Calls.{blockNeeds, ReadsSet}
-use Rattle.index.proofs.Firsts.{first-passed}
+use Rattle.index.proofs.laws.Firsts.{first-passed}
 use Rattle.directory.specs.Directory.{Own}
 use Rattle.directory.specs.By.{directoryNeeds, makingNeeds, MakesDirectory, By, KeptBy, MessageBy, ReadBy}
 use Rattle.directory.proofs.OneDirectory.{one-directory}

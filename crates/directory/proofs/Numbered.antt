@@ -4,10 +4,10 @@ use mathlib.Core.Path.{_≡_}
 use mathlib.Core.List.{List}
 use native.Mathlib.Omega.{arith}
 use Rattle.index.specs.declared.Kind.{Kind}
-use Rattle.index.specs.Block.{IsName, records, from, size, Of, place, key, id, Good}
-use Rattle.index.specs.Doors.{Has, PairOf}
-use Rattle.index.proofs.Bytes.{number-small}
-use Rattle.index.proofs.Records.{gap-in, of-records, no-lower}
+use Rattle.index.specs.Block.{IsName, records, from, size, Of, place, key, id, Good, Has}
+use Rattle.index.specs.Calls.{PairOf}
+use Rattle.index.proofs.laws.block.Bytes.{number-small}
+use Rattle.index.proofs.laws.block.Records.{gap-in, of-records, no-lower}
 
 -- The end of the parts is a 16-bit number.
 pub few : {b : List ℕ} → Good b → place (records b) < 2 ^ 16

@@ -6,9 +6,9 @@ use Rattle.index.specs.declared.Wrote.{Wrote}
 use Rattle.index.specs.declared.Took.{Took}
 use Rattle.index.specs.Numbers.{Answers}
 use Rattle.index.specs.Calls.{WritesSet, ReadsSet}
-use Rattle.index.proofs.OneFirst.{one-first}
-use Rattle.index.proofs.OneMessage.{one-message}
-use Rattle.index.proofs.OneCall.{one-write, one-read, wrote-once, took-once}
+use Rattle.index.proofs.laws.OneFirst.{one-first}
+use Rattle.index.proofs.laws.message.OneMessage.{one-message}
+use Rattle.index.proofs.laws.demands.OneCall.{one-write, one-read, wrote-once, took-once}
 use Rattle.directory.specs.Directory.{Own}
 use Rattle.directory.specs.By.{makingNeeds, MakesDirectory, directoryNeeds, By, KeptBy, MessageBy, ReadBy, WriteBy, WriteAnswersBy, ReadAnswersBy}
 use Rattle.directory.proofs.OneDirectory.{one-directory}

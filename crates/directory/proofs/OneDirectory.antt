@@ -9,7 +9,7 @@ use lib.Seq.{ext-getD}
 use Rattle.index.specs.declared.Kind.{Kind}
 use Rattle.index.specs.declared.Kind.the-variants.{Membership, Permission, Filter}
 use Rattle.index.specs.Block.{place}
-use Rattle.index.proofs.Range.{lt-or-le}
+use Rattle.index.proofs.laws.Range.{lt-or-le}
 use Rattle.directory.specs.Directory.{partLength, directoryLength, partStart, Lowest, BeginsAt, Own}
 
 module _ {b : List ℕ} {lo hi x y i j : ℕ} where

@@ -12,8 +12,8 @@ use Rattle.index.specs.Block.{IsName, Sized, Good}
 use Rattle.index.specs.Message.{IsKind, kindOf}
 use Rattle.index.specs.Text.{textOf, setOf}
 use Rattle.index.specs.Calls.{blockNeeds, messageNeeds, Message, setNeeds, writeNeeds, Written, WritesSet, WriteAnswers, ReadsSet, WroteMeans}
-use Rattle.index.proofs.Firsts.{first-map, first-all, refuses, passed}
-use Rattle.index.proofs.OneFirst.{first-cases}
+use Rattle.index.proofs.laws.Firsts.{first-map, first-all, refuses, passed}
+use Rattle.index.proofs.laws.OneFirst.{first-cases}
 use Rattle.directory.specs.Directory.{Own}
 use Rattle.directory.specs.By.{directoryNeeds, By, WriteBy, WriteAnswersBy}
 

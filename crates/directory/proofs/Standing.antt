@@ -14,11 +14,11 @@ use lib.ListN.{length, getD}
 use Rattle.index.specs.declared.Kind.{Kind}
 use Rattle.index.specs.declared.Kind.the-variants.{Membership, Permission, Filter}
 use Rattle.index.specs.Block.{from, size, place, key, Good}
-use Rattle.index.specs.Checks.{Says}
-use Rattle.index.proofs.Checked.{each-kind}
-use Rattle.index.proofs.Range.{lt-or-le}
+use Rattle.index.specs.work.Checks.{Says}
+use Rattle.index.proofs.laws.block.Checked.{each-kind}
+use Rattle.index.proofs.laws.Range.{lt-or-le}
 use Rattle.directory.specs.Directory.{directoryLength, partStart, entry, Lowest, StartsAt, BeginsAt, Own}
-use Rattle.directory.specs.Entries.{Steps, Entries, Right}
+use Rattle.directory.specs.work.Entries.{Steps, Entries, Right}
 use Rattle.directory.proofs.Numbered.{key-name, keys-rise}
 use Rattle.directory.proofs.OneDirectory.{lowest-rise}
 

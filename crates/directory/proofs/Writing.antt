@@ -10,10 +10,10 @@ use lib.Seq.{getD-set-same, getD-set-other}
 use Rattle.index.specs.declared.Kind.{Kind}
 use Rattle.index.specs.declared.Kind.the-variants.{Membership, Permission, Filter}
 use Rattle.index.specs.Block.{from, size, place, key}
-use Rattle.index.proofs.Checked.{each-kind}
-use Rattle.index.proofs.Range.{lt-or-le}
+use Rattle.index.proofs.laws.block.Checked.{each-kind}
+use Rattle.index.proofs.laws.Range.{lt-or-le}
 use Rattle.directory.specs.Directory.{partLength, directoryLength, partStart, Lowest, BeginsAt, Own}
-use Rattle.directory.specs.Entries.{Outside, Put, Entries, Filled}
+use Rattle.directory.specs.work.Entries.{Outside, Put, Entries, Filled}
 
 -- ---- a run of entries
 

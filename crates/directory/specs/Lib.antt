@@ -4,4 +4,4 @@ pub mod By
 -- What the builder of a crate above reads.
 pub mod Doors
 -- What only proofs need.
-pub mod Entries
+pub mod work

@@ -13,7 +13,7 @@ ghost use lib.ListN.{length};
 ghost use Rattle.index.specs.Block.{Good};
 ghost use Rattle.directory.specs.Directory.{directoryLength, Own};
 ghost use Rattle.directory.specs.By.{MakesDirectory};
-ghost use Rattle.directory.specs.Entries.{Put, Filled};
+ghost use Rattle.directory.specs.work.Entries.{Put, Filled};
 
 // The entries from `from` up to `end` become `value`.
 fn put(directory: &mut [u16], from: usize, end: usize, value: u16)

@@ -13,10 +13,10 @@ ghost use Prim.Native.Nat.{ℕ, _+_, _^_, _<_, _≤_};
 ghost use lib.ListN.{length};
 ghost use Rattle.index.specs.Numbers.{Answers};
 ghost use Rattle.index.specs.Block.{Good, records};
-ghost use Rattle.index.specs.Checks.{Says};
+ghost use Rattle.index.specs.work.Checks.{Says};
 ghost use Rattle.directory.specs.Directory.{partLength, directoryLength, Own};
 ghost use Rattle.directory.specs.By.{directoryNeeds};
-ghost use Rattle.directory.specs.Entries.{Rises, Stands, Right};
+ghost use Rattle.directory.specs.work.Entries.{Rises, Stands, Right};
 
 // The entries of the part from `at` on begin with `lo`, never fall, and end with `hi`. There is no way out of the loop, so that the
 // compiler can have several of them compared at a time.

@@ -1,14 +1,15 @@
 -- 01, "The block". A block is the list of its bytes.
-use Prim.Native.Nat.{ℕ, suc, _+_, _-_, _*_, _/_, _<_, _≤_}
+use Prim.Native.Nat.{ℕ, suc, _+_, _-_, _*_, _/_, _%_, _^_, _<_, _≤_}
 use mathlib.Core.Path.{_≡_}
 use mathlib.Core.Bool.{cond, _&&_}
 use mathlib.Core.Logic.{_⊎_}
 use mathlib.Core.List.{List}
+use lib.Bits.{bitAnd, bitXor}
 use lib.ListN.{length, getD}
 use lib.Dec.{eqb, ltb}
 use Rattle.index.specs.declared.Kind.{Kind}
 use Rattle.index.specs.declared.Kind.the-variants.{Membership, Permission, Filter}
-use Rattle.index.specs.Letters.{letterCount, lettersOf}
+use Rattle.index.specs.Letters.{letterCount, rightCount, lettersOf}
 
 -- "Names are numbers 0 to 1023."
 abbrev pub nameCount : ℕ
@@ -81,6 +82,10 @@ id b i = number b (place i + 2)
 unfoldable pub countAt : List ℕ → ℕ → ℕ → ℕ
 countAt b i k = cond (ltb k letterCount) (number b (place i + 4 + 2 * k)) 0
 
+-- The block has all of record i.
+abbrev pub Has : List ℕ → ℕ → Type 0
+Has b i = place (i + 1) ≤ length b
+
 -- "Room for records is (length − 16) / 20, rounded down"
 unfoldable pub room : List ℕ → ℕ
 room b = (length b - headerLength) / recordLength
@@ -125,3 +130,20 @@ countFrom b x y k i (suc n) = cond (eqb (key b i) x && eqb (id b i) y) (countAt 
 -- "each count, 0 for a missing record": letter k in the record of this kind with the key x and the id y.
 unfoldable pub count : List ℕ → Kind → ℕ → ℕ → ℕ → ℕ
 count b kind x y k = countFrom b x y k (from b kind) (size b kind)
+
+-- ---- the net mask of a record (01, "The rights")
+
+-- "The net mask of a record: its capital letters with a count above zero, less those whose small letter has a count above
+-- zero." Right k is in the net mask of record i: its small letter is the one four places on.
+abbrev pub NetAt : List ℕ → ℕ → ℕ → Type 0
+NetAt b i k = (0 < countAt b i k) × (countAt b i (k + rightCount) ≡ 0)
+
+-- "For one statement this equals 000's formula." One statement with this mask left record i: each letter of the mask stands
+-- in it once.
+abbrev pub OneStatement : List ℕ → ℕ → ℕ → Type 0
+OneStatement b i mask = (k : ℕ) → k < letterCount → countAt b i k ≡ mask / 2 ^ k % 2
+
+-- 000's formula, with 000's own numbers. A mask without small letters stays as it is. Else its small letters (240 is the mask of
+-- all four) are brought four places down and turned over, and of what that gives the letters of the mask are left.
+abbrev pub formula : ℕ → ℕ
+formula mask = cond (ltb 15 mask) (bitAnd (bitXor (bitAnd mask 240 / 2 ^ 4) 15) mask) mask

@@ -1,5 +1,5 @@
 -- 01, "Numbers a caller can get": the calls of this crate, each with its requirements in the order of their tests.
-use Prim.Native.Nat.{ℕ, _+_, _<_, _≤_}
+use Prim.Native.Nat.{ℕ, _+_, _*_, _<_, _≤_}
 use mathlib.Core.Path.{_≡_}
 use mathlib.Core.List.{List, [], _∷_, _++_}
 use mathlib.Core.Logic.{_⊎_}
@@ -9,13 +9,12 @@ use Rattle.index.specs.declared.Wrote.{Wrote}
 use Rattle.index.specs.declared.Wrote.the-variants as wrote
 use Rattle.index.specs.declared.Took.{Took}
 use Rattle.index.specs.declared.Took.the-variants as took
+use Rattle.index.specs.Letters.{Mask}
 use Rattle.index.specs.Numbers.{First, Each}
-use Rattle.index.specs.Block.{IsName, Sized, Good, records, room}
-use Rattle.index.specs.Message.{IsKind, kindOf, previous, new, WellFormed, Named, Masked, changes, Carried}
-use Rattle.index.specs.Listed.{kindIn, halfIn, changesIn}
+use Rattle.index.specs.Block.{IsName, Sized, key, id, Has, Good, records, room, NetAt}
+use Rattle.index.specs.Message.{IsKind, kindOf, previous, new, WellFormed, Named, Masked, changes, Carried, kindIn, halfIn, changesIn}
 use Rattle.index.specs.Wide.{WideFormed, widePrevious, wideNew, wideChanges}
-use Rattle.index.specs.Text.{Entry, textOf, setOf, Writes, Replaced}
-use Rattle.index.specs.Beginning.{Place}
+use Rattle.index.specs.Text.{Entry, textOf, setOf, Writes, Replaced, Place}
 
 -- 1: "block length not 16 to 40,976"; 2: "block not good".
 unfoldable pub blockNeeds : List ℕ → List (ℕ × Type 0)
@@ -122,3 +121,15 @@ WriteAnswers b kind x out r out′ = WroteMeans (λ n v. WritesSet b kind x out 
 
 unfoldable pub ReadAnswers : List ℕ → ℕ → ℕ → List ℕ → Took → List ℕ → Type 0
 ReadAnswers b kind x text r b′ = TookMeans (λ n v. ReadsSet b kind x text (n, v, b′)) r
+
+-- ---- the doors: what a crate above reads of a block
+
+-- r is the key of record i, and 65,536 times its id; 0 where the block has not all of it.
+pub record PairOf (b : List ℕ) (i r : ℕ) : Type 0 where
+  pub whole : Has b i → r ≡ key b i + 65536 * id b i
+  pub past : (Has b i → ⊥) → r ≡ 0
+
+-- r is the net mask of record i; 0 where the block has not all of it.
+pub record NetOf (b : List ℕ) (i r : ℕ) : Type 0 where
+  pub whole : Has b i → Mask r (NetAt b i)
+  pub past : (Has b i → ⊥) → r ≡ 0

@@ -1,8 +1,9 @@
 -- 01, "Rights and letters". The letters are numbered in the order of the table: M 0, R 1, U 2, P 3, m 4, r 5, u 6, p 7. The
 -- four rights are the four capital letters.
-use Prim.Native.Nat.{ℕ, _/_, _%_, _^_}
+use Prim.Native.Nat.{ℕ, _/_, _%_, _^_, _<_}
 use mathlib.Core.Path.{_≡_}
 use mathlib.Core.List.{List, [], _∷_}
+use mathlib.Core.Logic.{_↔_}
 use Rattle.index.specs.declared.Kind.{Kind}
 use Rattle.index.specs.declared.Kind.the-variants.{Membership, Permission, Filter}
 
@@ -32,3 +33,7 @@ unfoldable pub lettersOf : Kind → ℕ
 lettersOf Membership = rightCount
 lettersOf Permission = letterCount
 lettersOf Filter = rightCount
+
+-- r is the mask of the rights that P holds of.
+abbrev pub Mask : ℕ → (ℕ → Type 0) → Type 0
+Mask r P = (r < 2 ^ rightCount) × ((k : ℕ) → k < rightCount → In k r ↔ P k)

@@ -1,7 +1,7 @@
 -- 01, "The message", and its steps. A message is the list of its bytes.
-use Prim.Native.Nat.{ℕ, _+_, _<_, _≤_, _/_, _%_, _^_}
+use Prim.Native.Nat.{ℕ, _+_, _*_, _<_, _≤_, _/_, _%_, _^_}
 use mathlib.Core.Path.{_≡_}
-use mathlib.Core.Bool.{cond, _&&_}
+use mathlib.Core.Bool.{Bool, cond, _&&_}
 use mathlib.Core.List.{List, [], _∷_, _++_, map}
 use mathlib.Core.Logic.{_⊎_}
 use lib.ListN.{length, getD}
@@ -93,7 +93,7 @@ added (take h) kind x y k = 0
 added (add h) kind x y k = moves h kind x y k
 
 -- The block b becomes b′, a good block again, so that "a record whose counts are all zero is removed" and a new one stands
--- "in its place". There is one such block only (proofs/Canonical).
+-- "in its place". There is one such block only (laws/block/Canonical).
 pub record Changed (c : Change) (b b′ : List ℕ) : Type 0 where
   pub good : Good b′
   pub same-length : length b′ ≡ length b
@@ -117,3 +117,28 @@ unfoldable pub Carried : List ℕ → List Change → List ℕ → (ℕ × List 
 Carried b₀ [] b o = o ≡ (0, b)
 Carried b₀ (c ∷ cs) b o =
     First (λ n. (n, b₀)) (changeNeeds c b) (λ p. (b₁ : List ℕ) × Changed c b b₁ × Carried b₀ cs b₁ p) o
+
+-- ---- a list of changes as 64-bit numbers, one for each change: what a crate above hands over
+
+-- From the low end: 0 to take the half away or 1 to add it, in one bit; then its mask, its id and its key, 16 bits each; then
+-- the number of its kind.
+unfoldable pub packed : Bool → ℕ → ℕ → ℕ → ℕ → ℕ
+packed adds kind x y mask = cond adds 1 0 + 2 * (mask + 65536 * (y + 65536 * (x + 65536 * kind)))
+
+unfoldable pub kindIn : ℕ → ℕ
+kindIn n = n / 2 / 65536 / 65536 / 65536
+
+unfoldable pub halfIn : ℕ → Half
+halfIn n =
+    record {
+      kind = kindOf (kindIn n);
+      key = n / 2 / 65536 / 65536 % 65536;
+      id = n / 2 / 65536 % 65536;
+      mask = n / 2 % 65536;
+    }
+
+unfoldable pub changeIn : ℕ → Change
+changeIn n = cond (eqb (n % 2) 0) (take (halfIn n)) (add (halfIn n))
+
+abbrev pub changesIn : List ℕ → List Change
+changesIn cs = map changeIn cs

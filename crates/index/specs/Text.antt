@@ -1,9 +1,10 @@
--- 01, "The text of a set". A set is the list of its records; a text is the list of its bytes.
+-- 01, "The text of a set", and M-101 for the place of a wrong text. A set is the list of its records; a text is the list of its
+-- bytes.
 use Prim.Native.Nat.{ℕ, suc, _+_, _/_, _%_, _<_, _≤_}
 use mathlib.Core.Path.{_≡_}
 use mathlib.Core.Bool.{cond}
 use mathlib.Core.List.{List, [], _∷_, _++_}
-use lib.ListN.{length, getD}
+use lib.ListN.{length, getD, take}
 use lib.Dec.{eqb, ltb}
 use Rattle.index.specs.declared.Kind.{Kind}
 use Rattle.index.specs.Letters.{letterCount, letters, lettersOf}
@@ -91,6 +92,18 @@ pub data IsSet : Kind → List Entry → Type 0 where
 -- "The text must be exactly what some set of that kind is written as": it is what this set is written as.
 unfoldable pub Writes : Kind → List Entry → List ℕ → Type 0
 Writes kind es t = IsSet kind es × (textOf es ≡ t)
+
+-- ---- where a text is wrong
+
+-- M-101: "a beginning of some acceptable text of that kind": some set of the kind is written as these bytes followed by something.
+unfoldable pub Begins : Kind → List ℕ → Type 0
+Begins kind beginning = (es : List Entry) × (something : List ℕ) × Writes kind es (beginning ++ something)
+
+-- M-101: n is "the length of its longest beginning that is also a beginning of some acceptable text of that kind".
+pub record Place (kind : Kind) (text : List ℕ) (n : ℕ) : Type 0 where
+  pub within : n ≤ length text
+  pub begins : Begins kind (take n text)
+  pub longest : (longer : ℕ) → n < longer → longer ≤ length text → Begins kind (take longer text) → ⊥
 
 -- ---- "Reading replaces the whole set of that kind and key"
 

@@ -1,40 +1,23 @@
 // The index block: what it holds, the messages that change it, and its sets as text.
 
-mod carry;
-mod checks;
-mod counts;
-mod doors;
-mod edits;
-mod entries;
-mod kinds;
-mod letters;
-mod lists;
-mod making;
+mod block;
 mod messages;
-mod moves;
-mod numbers;
-mod places;
-mod reading;
-mod run;
-mod scanning;
-mod sets;
-mod taking;
-mod writing;
+mod text;
 
-pub use crate::checks::tested;
-pub use crate::doors::count_of;
-pub use crate::doors::id_of;
-pub use crate::doors::key_of;
-pub use crate::doors::net_of;
-pub use crate::doors::pair_of;
-pub use crate::doors::size_of;
-pub use crate::kinds::kind_of;
-pub use crate::lists::carry_out;
-pub use crate::making::make;
-pub use crate::messages::message;
-pub use crate::run::pack;
-pub use crate::sets::read_set;
-pub use crate::sets::write_set;
+pub use crate::block::checks::tested;
+pub use crate::block::doors::count_of;
+pub use crate::block::doors::id_of;
+pub use crate::block::doors::key_of;
+pub use crate::block::doors::net_of;
+pub use crate::block::doors::pair_of;
+pub use crate::block::doors::size_of;
+pub use crate::block::kinds::kind_of;
+pub use crate::block::making::make;
+pub use crate::messages::lists::carry_out;
+pub use crate::messages::plain::message;
+pub use crate::messages::run::pack;
+pub use crate::text::sets::read_set;
+pub use crate::text::sets::write_set;
 
 // How many bytes the header has, and a record.
 pub const HEADER: usize = 16;

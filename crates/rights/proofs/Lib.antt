@@ -1,24 +1,2 @@
--- What the proofs of several functions use, and the laws that are published.
-mod ByNumber
-mod Counting
-mod Looking
-mod Starting
-mod Fronts
-mod Rounding
-pub mod MarksAreChains
-pub mod ExaminedOnce
-pub mod AtMostFourTimes
-mod Examining
-mod Filters
-mod Sifting
-mod Granting
-mod Sides
-mod Asking
-mod AskingBy
-pub mod OneAnswer
-pub mod SameAnswers
-pub mod ShortAgrees
-mod ChainTest
-mod FilterTest
-pub mod HoldsTest
-pub mod ExaminedTest
+-- The laws that belong to no one function. The proof of a function stands in the folder of its module.
+pub mod laws

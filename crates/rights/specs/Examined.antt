@@ -4,7 +4,8 @@ use mathlib.Core.List.{List}
 use Rattle.index.specs.declared.Kind.the-variants.{Membership}
 use Rattle.index.specs.Letters.{rightCount}
 use Rattle.index.specs.Block.{size, key}
-use Rattle.rights.specs.Held.{Chain, Carries}
+use Rattle.rights.specs.Chain.{Chain}
+use Rattle.rights.specs.Held.{Carries}
 
 -- "A name's mark in round n is the set of rights that some chain of at most n records carries to it": right k is in the mark of
 -- x, where the walk starts at s. So "in round 0 the start has all four, the others none" (law `round-zero`).

@@ -1,8 +1,7 @@
 -- What the support desk reads.
+pub mod Chain
 pub mod Held
 pub mod Examined
 pub mod Questions
 -- What only proofs need.
-pub mod Marks
-pub mod Lookup
-pub mod Fronts
+pub mod work

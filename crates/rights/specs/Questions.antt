@@ -3,10 +3,9 @@ use Prim.Native.Nat.{ℕ, _<_, _≤_}
 use mathlib.Core.Path.{_≡_}
 use mathlib.Core.List.{List, [], _∷_, _++_}
 use mathlib.Core.Logic.{_↔_}
-use Rattle.index.specs.Letters.{rightCount, allRights, In}
+use Rattle.index.specs.Letters.{rightCount, allRights, In, Mask}
 use Rattle.index.specs.Numbers.{First}
 use Rattle.index.specs.Block.{IsName}
-use Rattle.index.specs.Doors.{Mask}
 use Rattle.index.specs.Calls.{blockNeeds}
 use Rattle.directory.specs.By.{By}
 use Rattle.rights.specs.declared.Rights.{Rights}

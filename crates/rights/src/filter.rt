@@ -5,11 +5,10 @@ use index::ALL;
 use index::Kind;
 use index::WIDE;
 ghost use Prim.Native.Nat.{_<_, _^_};
-ghost use Rattle.index.specs.Letters.{rightCount, In};
+ghost use Rattle.index.specs.Letters.{rightCount, In, Mask};
 ghost use Rattle.index.specs.Block.{Sized, Good, IsName};
-ghost use Rattle.index.specs.Doors.{Mask};
 ghost use Rattle.rights.specs.Held.{Passes};
-ghost use Rattle.rights.specs.Lookup.{Lent, Lets};
+ghost use Rattle.rights.specs.work.Lookup.{Lent, Lets};
 
 // The rights of the mask that are in the net mask of every F record of a name.
 fn narrowed(block: &[u8], directory: &[u16], name: usize, mask: u8) -> u8

@@ -7,7 +7,7 @@ ghost use Prim.Native.Nat.{_<_, _≤_};
 ghost use mathlib.Core.Path.{_≡_};
 ghost use Rattle.index.specs.Block.{IsName, records, Sized, Good};
 ghost use Rattle.directory.specs.Directory.{StartsAt};
-ghost use Rattle.rights.specs.Lookup.{wide, Lent, KeyBefore, Keyed};
+ghost use Rattle.rights.specs.work.Lookup.{wide, Lent, KeyBefore, Keyed};
 
 // No part has more records than this.
 const MOST: usize = 2048;

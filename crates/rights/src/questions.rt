@@ -7,7 +7,7 @@ use crate::grants::granted;
 use index::ALL;
 ghost use Rattle.index.specs.Numbers.{Answers};
 ghost use Rattle.index.specs.Block.{Sized, Good};
-ghost use Rattle.rights.specs.Lookup.{Lent};
+ghost use Rattle.rights.specs.work.Lookup.{Lent};
 ghost use Rattle.rights.specs.Questions.{askNeeds, Asks, AsksAll, AsksBy, AsksAllBy};
 
 // The greatest name, and the greatest request, which is for all four rights.

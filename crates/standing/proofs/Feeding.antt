@@ -10,7 +10,7 @@ use Rattle.standing.specs.declared.Input.the-variants as input
 use Rattle.standing.specs.Printed.{messageLength, refusalLine, Fed}
 use Rattle.standing.specs.Printed.Fed.{done, piece}
 use Rattle.standing.specs.Promised.{Taken, Came, Feeds}
-use Rattle.standing.specs.Room.{Usable}
+use Rattle.standing.specs.work.Room.{Usable}
 use Rattle.standing.proofs.StaysUsable.{still-usable}
 
 feeds-more : {b : List ℕ} {n : ℕ} {m line : List ℕ} {long : ℕ} {b₁ b′ : List ℕ} → length m ≡ messageLength → Taken b n m line long b₁

@@ -8,7 +8,7 @@ use native.Mathlib.Omega.{arith}
 use Rattle.index.specs.declared.Kind.{Kind}
 use Rattle.index.specs.Letters.{letters}
 use Rattle.index.specs.Text.{Entry, decimal, piecesOf, entryText, textOf, setOf}
-use Rattle.index.specs.Written.{Puts}
+use Rattle.index.specs.work.Written.{Puts}
 use Rattle.standing.specs.Printed.{messageWord, refusedWord, newline, refusalLine, lineOf, setLine, setLines, lineWith}
 use Rattle.standing.specs.Promised.{Front}
 

@@ -10,13 +10,13 @@ use Rattle.index.specs.declared.Kind.{Kind}
 use Rattle.index.specs.declared.Kind.the-variants.{Membership, Permission, Filter}
 use Rattle.index.specs.Block.{nameCount, size, from, key}
 use Rattle.index.specs.Text.{Entry, textOf, setFrom, setOf}
-use Rattle.index.specs.Longest.{fieldDigits, longestRecord}
-use Rattle.index.proofs.Digits.{ten}
-use Rattle.index.proofs.Decimal.{decimal-five}
-use Rattle.index.proofs.IsSet.{is-set}
-use Rattle.index.proofs.TextBound.{text-bound, few-records}
+use Rattle.index.specs.work.Longest.{fieldDigits, longestRecord}
+use Rattle.index.proofs.laws.text.Digits.{ten}
+use Rattle.index.proofs.laws.text.Decimal.{decimal-five}
+use Rattle.index.proofs.laws.text.IsSet.{is-set}
+use Rattle.index.proofs.laws.text.TextBound.{text-bound, few-records}
 use Rattle.standing.specs.Printed.{lineOf, setLine, setLines, blockLines}
-use Rattle.standing.specs.Room.{Usable, longestLine, longestSets}
+use Rattle.standing.specs.work.Room.{Usable, longestLine, longestSets}
 
 -- ---- each record has one key
 

@@ -6,9 +6,9 @@ use lib.ListN.{length}
 use native.Mathlib.Omega.{arith}
 use Rattle.index.specs.Block.{greatestLength, Sized}
 use Rattle.index.specs.Calls.{Made, Makes, makeNeeds}
-use Rattle.index.proofs.Firsts.{first-all}
-use Rattle.index.proofs.OneCall.{one-make}
-use Rattle.index.proofs.OneMessage.{one-message}
+use Rattle.index.proofs.laws.Firsts.{first-all}
+use Rattle.index.proofs.laws.demands.OneCall.{one-make}
+use Rattle.index.proofs.laws.message.OneMessage.{one-message}
 use Rattle.standing.specs.Printed.{Fed, Prints}
 use Rattle.standing.specs.Printed.Fed.{done, piece}
 use Rattle.standing.proofs.StaysUsable.{is-made}

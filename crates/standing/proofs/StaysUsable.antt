@@ -6,11 +6,11 @@ use mathlib.Core.List.{List}
 use lib.ListN.{length}
 use Rattle.index.specs.Block.{greatestLength, Sized}
 use Rattle.index.specs.Calls.{Message, Made, Makes, makeNeeds}
-use Rattle.index.proofs.Firsts.{first-sure}
-use Rattle.index.proofs.StaysGood.{stays-good}
+use Rattle.index.proofs.laws.Firsts.{first-sure}
+use Rattle.index.proofs.laws.message.StaysGood.{stays-good}
 use Rattle.standing.specs.Printed.{Fed}
 use Rattle.standing.specs.Printed.Fed.{done, piece}
-use Rattle.standing.specs.Room.{Usable}
+use Rattle.standing.specs.work.Room.{Usable}
 
 pub still-usable : (b m b′ : List ℕ) (r : ℕ) → Message b m (r, b′) → Usable b → Usable b′
 unfolding Sized

@@ -9,12 +9,12 @@ use Rattle.index.specs.declared.Wrote.the-variants as wrote
 use Rattle.index.specs.Block.{IsName}
 use Rattle.index.specs.Message.{IsKind, kindOf}
 use Rattle.index.specs.Text.{textOf, setOf}
-use Rattle.index.specs.Longest.{longestText}
+use Rattle.index.specs.work.Longest.{longestText}
 use Rattle.index.specs.Calls.{WriteAnswers, WritesSet, Written}
-use Rattle.index.proofs.TextBound.{set-text-bound}
-use Rattle.index.proofs.WriteAccepted.{write-accepted}
+use Rattle.index.proofs.laws.text.TextBound.{set-text-bound}
+use Rattle.index.proofs.laws.text.WriteAccepted.{write-accepted}
 use Rattle.standing.specs.Promised.{Front}
-use Rattle.standing.specs.Room.{Usable}
+use Rattle.standing.specs.work.Room.{Usable}
 
 module _
     (b : List ℕ)

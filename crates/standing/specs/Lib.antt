@@ -2,4 +2,4 @@
 pub mod Printed
 pub mod Promised
 -- What only proofs need.
-pub mod Room
+pub mod work

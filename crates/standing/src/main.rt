@@ -15,11 +15,11 @@ ghost use lib.ListN.{length};
 ghost use Rattle.index.specs.Block.{IsName, nameCount, greatestLength};
 ghost use Rattle.index.specs.Message.{IsKind, kindOf};
 ghost use Rattle.index.specs.Text.{decimal, textOf, setOf};
-ghost use Rattle.index.specs.Longest.{longestText};
-ghost use Rattle.index.specs.Written.{Puts};
+ghost use Rattle.index.specs.work.Longest.{longestText};
+ghost use Rattle.index.specs.work.Written.{Puts};
 ghost use Rattle.standing.specs.Printed.{kindLetter, messageLength, refusalLine, setLine, setLines, blockLines, lineWith};
 ghost use Rattle.standing.specs.Promised.{Front, Taken, Came, Feeds, Ran};
-ghost use Rattle.standing.specs.Room.{Usable, lineRoom, longestSets};
+ghost use Rattle.standing.specs.work.Room.{Usable, lineRoom, longestSets};
 
 // The kinds.
 const MEMBERSHIP: u64 = 1;

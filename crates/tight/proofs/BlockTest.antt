@@ -7,8 +7,8 @@ use borrow.Author.Tests.{leb-true}
 use lib.Dec.{leb}
 use lib.ListN.{length}
 use Rattle.index.specs.Block.{headerLength, greatestLength, Sized, Good}
-use Rattle.index.proofs.Tests.{both}
-use Rattle.index.proofs.GoodTest.{goodTest, good-test}
+use Rattle.index.proofs.laws.Tests.{both}
+use Rattle.index.proofs.laws.block.GoodTest.{goodTest, good-test}
 
 abbrev pub blockTest : List ℕ → Bool
 blockTest b = leb headerLength (length b) && (leb (length b) greatestLength && goodTest b)

@@ -11,17 +11,17 @@ use Rattle.index.specs.Letters.{letterCount, lettersOf}
 use Rattle.index.specs.Numbers.{First}
 use Rattle.index.specs.Block.{number, countAt, count, key, id, Of, Sized, Good}
 use Rattle.index.specs.Calls.{blockNeeds, Message, WritesSet, ReadsSet, ReadAnswers}
-use Rattle.index.proofs.GoodTest.{good-test}
-use Rattle.index.proofs.Range.{lt-or-le}
-use Rattle.index.proofs.Records.{of-records, count-at}
-use Rattle.index.proofs.StaysGood.{stays-good}
+use Rattle.index.proofs.laws.block.GoodTest.{good-test}
+use Rattle.index.proofs.laws.Range.{lt-or-le}
+use Rattle.index.proofs.laws.block.Records.{of-records, count-at}
+use Rattle.index.proofs.laws.message.StaysGood.{stays-good}
 use Rattle.directory.specs.Directory.{directoryLength, BeginsAt, Own}
 use Rattle.directory.specs.By.{directoryNeeds, makingNeeds, MakesDirectory, By, KeptBy, MessageBy, ReadBy, WriteBy}
 use Rattle.directory.proofs.DirectoryOf.{has-own}
 use Rattle.directory.proofs.Passing.{Tests, read-tests, write-tests}
 use Rattle.directory.proofs.Keeping.{Valued, valued-tests, read-good, read-same}
 use Rattle.rights.specs.Questions.{unreported, Full, Short, FullBy, ShortBy}
-use Rattle.rights.proofs.SameAnswers.{full-tests, short-tests}
+use Rattle.rights.proofs.laws.questions.SameAnswers.{full-tests, short-tests}
 use Rattle.tight.specs.Blocks.{nothing, reads}
 
 -- A directory to lend with a block: its own, where it is good.

@@ -8,7 +8,7 @@ use Rattle.index.specs.Numbers.{Each}
 use Rattle.index.specs.Message.{kindOf, changes}
 use Rattle.index.specs.Calls.{Message}
 use Rattle.index.specs.Text.{textOf, setOf}
-use Rattle.index.proofs.MessageTest.{messageTest, message-test, lastOf}
+use Rattle.index.proofs.laws.message.MessageTest.{messageTest, message-test, lastOf}
 use Rattle.tight.specs.Examples.{Case, Shows}
 use Rattle.tight.proofs.BlockTest.{blockTest}
 use Rattle.tight.proofs.RightsTest.{Tested, rights-test, everywhereTest, everywhere-test}

@@ -6,9 +6,9 @@ use native.Mathlib.Omega.{arith}
 use Rattle.index.specs.Calls.{Makes}
 use Rattle.index.specs.History.{Labelled, Statement, History}
 use Rattle.index.specs.History.History.{nothing, accepted, refused}
-use Rattle.index.proofs.AnyOrder.{any-order}
-use Rattle.index.proofs.OneMessage.{one-sent}
-use Rattle.index.proofs.Standing.{Once, Single, Counts, standing}
+use Rattle.index.proofs.laws.demands.AnyOrder.{any-order}
+use Rattle.index.proofs.laws.message.OneMessage.{one-sent}
+use Rattle.index.proofs.laws.demands.Standing.{Once, Single, Counts, standing}
 use Rattle.tight.specs.Demand3.{FirstHalf, CountsStanding, SecondHalf}
 
 pub first-half : FirstHalf

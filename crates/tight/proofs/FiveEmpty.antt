@@ -11,8 +11,8 @@ use Rattle.index.specs.Block.{number, Sized, Good, countAt, count}
 use Rattle.index.specs.Message.{IsKind, kindOf, kindNumber, flags, halfAt, previous, new, moves}
 use Rattle.index.specs.Calls.{blockNeeds, Makes, ReadsSet}
 use Rattle.index.specs.History.{left, others, after, movesOf, tally}
-use Rattle.index.proofs.Firsts.{first-passed, first-sure}
-use Rattle.index.proofs.GoodTest.{good-test}
+use Rattle.index.proofs.laws.Firsts.{first-passed, first-sure}
+use Rattle.index.proofs.laws.block.GoodTest.{good-test}
 use Rattle.directory.specs.Directory.{directoryLength, partStart, BeginsAt, Own}
 use Rattle.directory.specs.By.{directoryNeeds, makingNeeds, MakesDirectory, By, KeptBy, MessageBy, ReadBy, WriteBy}
 use Rattle.directory.proofs.DirectoryOf.{has-own}

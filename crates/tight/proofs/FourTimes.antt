@@ -5,7 +5,7 @@ use native.Mathlib.Omega.{arith}
 use Rattle.index.specs.declared.Kind.the-variants.{Membership}
 use Rattle.index.specs.Block.{number, size}
 use Rattle.rights.specs.Examined.{Examined, roundCount}
-use Rattle.rights.proofs.OneAnswer.{accepted-full}
+use Rattle.rights.proofs.laws.questions.OneAnswer.{accepted-full}
 use Rattle.tight.specs.Examples.{crowd}
 use Rattle.tight.proofs.Starred.{examined-right}
 

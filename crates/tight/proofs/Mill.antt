@@ -14,14 +14,14 @@ use Rattle.index.specs.History.{Sent, Accepted, Labelled, Statement, left, othe
 use Rattle.index.specs.History.Sent.{plain}
 use Rattle.index.specs.History.Accepted.{next}
 use Rattle.index.specs.History.History.{accepted}
-use Rattle.index.proofs.Firsts.{All, first-all}
-use Rattle.index.proofs.GoodTest.{good-test}
-use Rattle.index.proofs.Masks.{four}
+use Rattle.index.proofs.laws.Firsts.{All, first-all}
+use Rattle.index.proofs.laws.block.GoodTest.{good-test}
+use Rattle.index.proofs.laws.block.Masks.{four}
 use Rattle.rights.specs.Held.{Holds}
 use Rattle.rights.specs.Questions.{questionNeeds, Limited, HoldsAll, Full, Short}
 use Rattle.tight.specs.Blocks.{nothing, reads, give, withdraw}
 use Rattle.tight.specs.Programs.{Program, Meets, run}
-use Rattle.rights.proofs.OneAnswer.{accepted-full}
+use Rattle.rights.proofs.laws.questions.OneAnswer.{accepted-full}
 use Rattle.tight.proofs.Programs.{runs, answers}
 use Rattle.tight.proofs.Starred.{appointments-right}
 use Rattle.tight.proofs.Demand3.{first-half, second-half}

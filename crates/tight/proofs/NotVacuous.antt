@@ -9,13 +9,13 @@ use Rattle.index.specs.declared.Kind.the-variants.{Permission}
 use Rattle.index.specs.Letters.{letters, lettersOf}
 use Rattle.index.specs.Numbers.{Answers, Each}
 use Rattle.index.specs.Block.{number, countAt, countFrom, count, room, Sized, nameCount, Good}
-use Rattle.index.specs.Message.{IsKind, kindOf, flags, halfAt, previous, new, changes, ownCount, WellFormed, Named, Masked, Carried}
+use Rattle.index.specs.Message.{IsKind, kindOf, flags, halfAt, previous, new, changes, ownCount, WellFormed, Named, Masked, Carried, packed, kindIn, halfIn, changeIn, changesIn}
 use Rattle.index.specs.Text.{Writes, digitsOf, decimal, pieceOf, piecesOf, entryText, textOf, countsAt, setFrom, setOf}
-use Rattle.index.specs.Reading.{digit, reaches, readDigits, readNumber, readCount, readLetter, readCounts, readMark, readRecord, readMore, readRecords, parse}
+use Rattle.index.specs.work.Reading.{digit, reaches, readDigits, readNumber, readCount, readLetter, readCounts, readMark, readRecord, readMore, readRecords, parse}
 use Rattle.index.specs.Calls.{blockNeeds, makeNeeds, messageNeeds, setNeeds, writeNeeds, Makes, Message, WritesSet, ReadsSet, listNeeds, CarriesOut}
-use Rattle.index.proofs.Firsts.{All, first-all, passed-first, refuses, answers-first, first-passed}
-use Rattle.index.proofs.SetReader.{parse-sound}
-use Rattle.index.proofs.GoodTest.{good-test}
+use Rattle.index.proofs.laws.Firsts.{All, first-all, passed-first, refuses, answers-first, first-passed}
+use Rattle.index.proofs.laws.text.SetReader.{parse-sound}
+use Rattle.index.proofs.laws.block.GoodTest.{good-test}
 use Rattle.directory.specs.Directory.{directoryLength}
 use Rattle.directory.specs.By.{makingNeeds, MakesDirectory, KeptBy, MessageBy, ReadBy, WriteBy}
 use Rattle.rights.specs.Questions.{questionNeeds, unreported, Full, Short, FullBy, ShortBy}
@@ -26,8 +26,7 @@ use Rattle.tight.proofs.Starred.{_and_, texts-right, limits-right}
 use Rattle.tight.proofs.RefusedTest.{refused-test, changeTest, change-test}
 use Rattle.tight.proofs.Mill.{made, first-given, both-withdrawn, held-by-one, no-to-all}
 use mathlib.Core.Bool.{Bool, true, false}
-use Rattle.index.specs.Listed.{packed, kindIn, halfIn, changeIn, changesIn}
-use Rattle.index.proofs.ListTests.{ownNeeds}
+use Rattle.index.proofs.laws.message.ListTests.{ownNeeds}
 use Rattle.tight.proofs.BlockTest.{blockTest, block-test}
 use Rattle.tight.proofs.ByDirectory.{message-lent, read-lent, write-lent, questions-lent, not-lent, made-directory, not-made, fine-nothing}
 

@@ -6,14 +6,14 @@ use Rattle.index.specs.Calls.{Makes, Message, WritesSet, ReadsSet}
 use Rattle.index.specs.History.{Accepted, Labelled, Statement, History}
 use Rattle.index.specs.History.Sent.{plain}
 use Rattle.index.specs.History.Accepted.{nothing, next}
-use Rattle.index.proofs.OneCall.{one-make, one-write, one-read}
-use Rattle.index.proofs.OneMessage.{one-message}
-use Rattle.index.proofs.Unchanged.{message-unchanged}
+use Rattle.index.proofs.laws.demands.OneCall.{one-make, one-write, one-read}
+use Rattle.index.proofs.laws.message.OneMessage.{one-message}
+use Rattle.index.proofs.laws.demands.Unchanged.{message-unchanged}
 use Rattle.directory.specs.By.{MakesDirectory, MessageBy, ReadBy, WriteBy}
 use Rattle.directory.proofs.OneBy.{one-made, one-message-by, one-read-by, one-write-by}
 use Rattle.rights.specs.Questions.{Full, Short, FullBy, ShortBy}
-use Rattle.rights.proofs.OneAnswer.{one-full, one-short}
-use Rattle.rights.proofs.SameAnswers.{one-full-by, one-short-by}
+use Rattle.rights.proofs.laws.questions.OneAnswer.{one-full, one-short}
+use Rattle.rights.proofs.laws.questions.SameAnswers.{one-full-by, one-short-by}
 use Rattle.tight.specs.Programs.{Program, Meets, run, Handed}
 
 module _ (p : Program) (meets : Meets p) where

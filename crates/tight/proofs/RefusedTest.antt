@@ -13,8 +13,8 @@ use Rattle.index.specs.Message.{WellFormed, Named, Masked, Half, Change, previo
 use Rattle.index.specs.Message.Change.{take, add}
 use Rattle.index.specs.Numbers.{Each}
 use Rattle.index.specs.Calls.{blockNeeds, messageNeeds, Message}
-use Rattle.index.proofs.Tests.{both, all, all-at, some, some-at}
-use Rattle.index.proofs.Firsts.{first-passed}
+use Rattle.index.proofs.laws.Tests.{both, all, all-at, some, some-at}
+use Rattle.index.proofs.laws.Firsts.{first-passed}
 use Rattle.tight.proofs.BlockTest.{blockTest, block-test}
 
 -- ---- the message itself

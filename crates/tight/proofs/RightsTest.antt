@@ -10,12 +10,12 @@ use lib.Dec.{eqb, ltb}
 use Rattle.index.specs.Letters.{rightCount, allRights, In}
 use Rattle.index.specs.Block.{nameCount, IsName, Good}
 use Rattle.index.specs.Calls.{blockNeeds}
-use Rattle.index.proofs.Masks.{in-all}
-use Rattle.index.proofs.Tests.{both, all, all-at}
+use Rattle.index.proofs.laws.block.Masks.{in-all}
+use Rattle.index.proofs.laws.Tests.{both, all, all-at}
 use Rattle.rights.specs.Held.{Holds}
 use Rattle.rights.specs.Questions.{questionNeeds, Limited, Full}
-use Rattle.rights.proofs.ExaminedTest.{examinedTest, examined-test}
-use Rattle.rights.proofs.HoldsTest.{holdsTest, holds-test}
+use Rattle.rights.proofs.laws.examined.ExaminedTest.{examinedTest, examined-test}
+use Rattle.rights.proofs.laws.held.HoldsTest.{holdsTest, holds-test}
 use Rattle.tight.proofs.BlockTest.{blockTest, block-test}
 
 abbrev same : Bool → Bool → Bool

@@ -7,7 +7,7 @@ use Rattle.index.specs.Numbers.{Each}
 use Rattle.index.specs.Block.{number, countAt, countFrom, count, room}
 use Rattle.index.specs.Message.{kindOf, kindNumber, flags, halfAt, previous, new, changes, moves, taken, added, ownCount}
 use Rattle.index.specs.Text.{digitsOf, decimal, pieceOf, piecesOf, entryText, textOf, countsAt, setFrom, setOf}
-use Rattle.index.specs.Reading.{digit, reaches, readDigits, readNumber, readCount, readLetter, readCounts, readMark, readRecord, readMore, readRecords, parse}
+use Rattle.index.specs.work.Reading.{digit, reaches, readDigits, readNumber, readCount, readLetter, readCounts, readMark, readRecord, readMore, readRecords, parse}
 use Rattle.tight.specs.Blocks.{once, block, nothing, reads}
 use Rattle.tight.specs.Examples.{Case, Shows, granted, masks, texts, places, chains, examined, appointments, limits, cases}
 use Rattle.tight.proofs.CaseTest.{all-mean}

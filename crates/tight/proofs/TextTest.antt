@@ -13,17 +13,16 @@ use Rattle.index.specs.declared.Kind.the-variants.{Membership, Permission, Filt
 use Rattle.index.specs.Letters.{letterCount}
 use Rattle.index.specs.Block.{IsName, Sized, Good, records, room, count, nameCount}
 use Rattle.index.specs.Message.{IsKind, kindOf}
-use Rattle.index.specs.Text.{Entry, textOf, setOf, IsSet, Writes, countIn, Replaced}
-use Rattle.index.specs.Beginning.{Place}
+use Rattle.index.specs.Text.{Entry, textOf, setOf, IsSet, Writes, countIn, Replaced, Place}
 use Rattle.index.specs.Calls.{blockNeeds, setNeeds, writeNeeds, Read, OfNone, ReadsText, WritesSet, ReadsSet}
-use Rattle.index.specs.Reading.{Parsed, parse}
-use Rattle.index.specs.Reading.Parsed.{got, wrong}
-use Rattle.index.proofs.Tests.{both}
-use Rattle.index.proofs.Firsts.{first-sure}
-use Rattle.index.proofs.IsSet.{is-set}
-use Rattle.index.proofs.SetCounts.{set-counts}
-use Rattle.index.proofs.TextOnce.{writes-once, parse-wrong}
-use Rattle.index.proofs.Placing.{wrong-place}
+use Rattle.index.specs.work.Reading.{Parsed, parse}
+use Rattle.index.specs.work.Reading.Parsed.{got, wrong}
+use Rattle.index.proofs.laws.Tests.{both}
+use Rattle.index.proofs.laws.Firsts.{first-sure}
+use Rattle.index.proofs.laws.text.IsSet.{is-set}
+use Rattle.index.proofs.laws.text.SetCounts.{set-counts}
+use Rattle.index.proofs.laws.text.TextOnce.{writes-once, parse-wrong}
+use Rattle.index.proofs.laws.text.Placing.{wrong-place}
 use Rattle.tight.specs.Examples.{Anywhere}
 use Rattle.tight.proofs.BlockTest.{blockTest, block-test}
 

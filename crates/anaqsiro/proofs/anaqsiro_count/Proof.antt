@@ -1,7 +1,7 @@
 -- `anaqsiro::anaqsiro_count` meets its contract: what the door says of the count; a record has no letter past the last.
 use mathlib.Core.Path.{sym}
 use borrow.Author.Needs.{needs}
-use Rattle.index.proofs.Bytes.{count-out}
+use Rattle.index.proofs.laws.block.Bytes.{count-out}
 use Rattle.anaqsiro.specs.Returned.{CountReturns}
 use Rattle.anaqsiro.proofs.Numbered.{none-returned, some-returned}
 use Rattle.anaqsiro.proofs.anaqsiro_count.Statement.{statement}

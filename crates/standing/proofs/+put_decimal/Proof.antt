@@ -7,8 +7,8 @@ use lib.ListN.{length, length-set}
 use borrow.Fn.Kinds.{In}
 use borrow.Fn.PlainCycle.{Measures, is, falls, and}
 use Rattle.index.specs.Text.{decimal}
-use Rattle.index.proofs.Decimal.{decimal-small, decimal-step, decimal-longer}
-use Rattle.index.proofs.Writes.{puts-then}
+use Rattle.index.proofs.laws.text.Decimal.{decimal-small, decimal-step, decimal-longer}
+use Rattle.index.proofs.laws.text.Writes.{puts-then}
 use Rattle.standing.proofs.put_decimal.Reads as put-decimal
 use Rattle.standing.proofs.put_decimal.Kinds as put-decimal-kinds
 use Rattle.standing.proofs.+put_decimal.Lts-put_decimal as lts

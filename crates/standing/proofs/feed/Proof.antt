@@ -5,7 +5,7 @@ use native.Mathlib.Omega.{arith}
 use borrow.Author.Needs.{needs}
 use lib.ListN.{length}
 use Rattle.standing.specs.Printed.{messageLength}
-use Rattle.standing.specs.Room.{lineRoom}
+use Rattle.standing.specs.work.Room.{lineRoom}
 use Rattle.standing.proofs.Feeding.{Feeding, feeding-first, feeding-over, feeding-more, feeding-last, feeding-ended}
 use Rattle.standing.proofs.feed.Statement.{statement}
 use Rattle.standing.proofs.feed.Tie as tie

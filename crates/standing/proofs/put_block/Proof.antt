@@ -6,7 +6,7 @@ use lib.ListN.{length, length-append}
 use Rattle.index.specs.declared.Kind.the-variants.{Membership, Permission, Filter}
 use Rattle.index.specs.Block.{nameCount}
 use Rattle.index.specs.Message.{IsKind, kindOf}
-use Rattle.index.proofs.Writes.{puts-then}
+use Rattle.index.proofs.laws.text.Writes.{puts-then}
 use Rattle.standing.specs.Printed.{setLines, blockLines}
 use Rattle.standing.proofs.Lines.{puts-front}
 use Rattle.standing.proofs.LinesBound.{block-bound}

@@ -7,8 +7,8 @@ use native.Mathlib.Numerals.{add-one}
 use borrow.Author.Needs.{needs}
 use lib.ListN.{length, take, getD, length-set}
 use lib.Seq.{take-suc, take-all}
-use Rattle.index.specs.Written.{Puts}
-use Rattle.index.proofs.Writes.{puts-then}
+use Rattle.index.specs.work.Written.{Puts}
+use Rattle.index.proofs.laws.text.Writes.{puts-then}
 use Rattle.standing.proofs.put_bytes.Statement.{statement}
 use Rattle.standing.proofs.put_bytes.Tie as tie
 

@@ -2,7 +2,7 @@
 use native.Mathlib.Omega.{arith}
 use lib.ListN.{length-append}
 use borrow.Author.Needs.{needs}
-use Rattle.index.proofs.Writes.{puts-then}
+use Rattle.index.proofs.laws.text.Writes.{puts-then}
 use Rattle.standing.specs.Printed.{space, newline}
 use Rattle.standing.proofs.put_line.Statement.{statement}
 use Rattle.standing.proofs.put_line.Tie as tie

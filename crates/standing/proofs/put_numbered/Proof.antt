@@ -3,7 +3,7 @@ use native.Mathlib.Omega.{arith}
 use borrow.Author.Needs.{needs}
 use lib.ListN.{length-append}
 use Rattle.index.specs.Text.{decimal}
-use Rattle.index.proofs.Writes.{puts-then}
+use Rattle.index.proofs.laws.text.Writes.{puts-then}
 use Rattle.standing.proofs.put_numbered.Statement.{statement}
 use Rattle.standing.proofs.put_numbered.Tie as tie
 

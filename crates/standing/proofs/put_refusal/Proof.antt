@@ -5,8 +5,8 @@ use mathlib.Core.List.{_++_}
 use lib.ListN.{length, length-append}
 use borrow.Author.Needs.{needs}
 use Rattle.index.specs.Text.{mostDigits, decimal}
-use Rattle.index.proofs.Decimal.{decimal-twenty}
-use Rattle.index.proofs.Writes.{puts-none, puts-then}
+use Rattle.index.proofs.laws.text.Decimal.{decimal-twenty}
+use Rattle.index.proofs.laws.text.Writes.{puts-none, puts-then}
 use Rattle.standing.specs.Printed.{messageWord, refusedWord, newline}
 use Rattle.standing.proofs.Lines.{puts-front, refusal-none, refusal-some}
 use Rattle.standing.proofs.put_refusal.Statement.{statement}

@@ -5,7 +5,7 @@ use borrow.Author.Needs.{needs}
 use lib.ListN.{length}
 use lib.Seq.{length-take-le}
 use Rattle.index.specs.Message.{kindOf}
-use Rattle.index.proofs.Writes.{puts-none}
+use Rattle.index.proofs.laws.text.Writes.{puts-none}
 use Rattle.standing.proofs.Lines.{set-none, set-some}
 use Rattle.standing.proofs.put_set.Statement.{statement}
 use Rattle.standing.proofs.put_set.Tie as tie

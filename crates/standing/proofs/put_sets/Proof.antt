@@ -6,7 +6,7 @@ use borrow.Author.Needs.{needs}
 use lib.ListN.{length}
 use Rattle.index.specs.Block.{nameCount}
 use Rattle.index.specs.Message.{kindOf}
-use Rattle.index.proofs.Writes.{Going, going-first, going-next, going-last}
+use Rattle.index.proofs.laws.text.Writes.{Going, going-first, going-next, going-last}
 use Rattle.standing.specs.Printed.{setLines}
 use Rattle.standing.proofs.Lines.{lines-next, lines-long, lines-end}
 use Rattle.standing.proofs.put_sets.Statement.{statement}

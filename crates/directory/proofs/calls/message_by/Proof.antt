@@ -3,7 +3,7 @@ use denote.Ref.{now}
 use mathlib.Core.Path.{refl}
 use borrow.Author.Needs.{needs}
 use Rattle.index.specs.Block.{Good}
-use Rattle.index.proofs.Answer.{yes-not, no-not}
+use Rattle.index.proofs.laws.Answer.{yes-not, no-not}
 use Rattle.directory.specs.Directory.{Own}
 use Rattle.directory.specs.By.{MessageBy}
 use Rattle.directory.proofs.Passing.{not-own}

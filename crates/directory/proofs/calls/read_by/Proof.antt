@@ -6,7 +6,7 @@ use borrow.Author.Needs.{needs}
 use Rattle.index.specs.declared.Took.{Took}
 use Rattle.index.specs.Block.{Good}
 use Rattle.index.specs.Calls.{ReadsSet, ReadAnswers}
-use Rattle.index.proofs.Answer.{yes-not, no-not}
+use Rattle.index.proofs.laws.Answer.{yes-not, no-not}
 use Rattle.directory.specs.Directory.{Own}
 use Rattle.directory.specs.By.{ReadBy, ReadAnswersBy}
 use Rattle.directory.proofs.Passing.{not-own, not-nine}

@@ -5,7 +5,7 @@ use denote.Ref.{now}
 use borrow.Author.Needs.{needs}
 use native.Mathlib.Omega.{arith}
 use Rattle.index.specs.Block.{Good}
-use Rattle.index.proofs.Answer.{yes-not, no-not}
+use Rattle.index.proofs.laws.Answer.{yes-not, no-not}
 use Rattle.directory.specs.Directory.{Own}
 use Rattle.directory.specs.By.{WriteBy, WriteAnswersBy}
 use Rattle.directory.proofs.Passing.{not-own, by-refused, write-by-own}

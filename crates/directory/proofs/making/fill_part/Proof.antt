@@ -6,7 +6,7 @@ use native.Mathlib.Omega.{arith}
 use borrow.Author.Needs.{needs}
 use mathlib.Core.Logic.{⊎-elim}
 use Rattle.index.specs.Block.{key, Of}
-use Rattle.index.proofs.Records.{of-records}
+use Rattle.index.proofs.laws.block.Records.{of-records}
 use Rattle.directory.proofs.Numbered.{pair-key, key-name, keys-rise, place-few}
 use Rattle.directory.proofs.OneDirectory.{part-in}
 use Rattle.directory.proofs.Writing.{Through, through-none, through-same, through-more, part-filled}

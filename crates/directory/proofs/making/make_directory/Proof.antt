@@ -7,7 +7,7 @@ use denote.Ref.{now}
 use native.Mathlib.Omega.{arith}
 use borrow.Author.Needs.{needs}
 use Rattle.index.specs.Calls.{blockNeeds}
-use Rattle.index.proofs.Firsts.{All, passed, refused-first, passed-first}
+use Rattle.index.proofs.laws.Firsts.{All, passed, refused-first, passed-first}
 use Rattle.directory.specs.Directory.{Own}
 use Rattle.directory.specs.By.{makingNeeds, MakesDirectory}
 use Rattle.directory.proofs.making.make_directory.Statement.{statement}

@@ -4,7 +4,7 @@ use mathlib.Core.Path.{_≡_}
 use native.Mathlib.Omega.{arith}
 use borrow.Author.Needs.{needs}
 use lib.ListN.{length}
-use Rattle.directory.specs.Entries.{Put}
+use Rattle.directory.specs.work.Entries.{Put}
 use Rattle.directory.proofs.Writing.{put-none, put-more}
 use Rattle.directory.proofs.making.put.Statement.{statement}
 use Rattle.directory.proofs.making.put.Tie as tie

@@ -1,7 +1,7 @@
 -- `testing::own` meets its contract: the length, and the three parts.
 use borrow.Author.Needs.{needs}
 use Rattle.index.specs.declared.Kind.the-variants.{Membership, Permission, Filter}
-use Rattle.index.proofs.Answer.{yes-not, no-not, says-same}
+use Rattle.index.proofs.laws.Answer.{yes-not, no-not, says-same}
 use Rattle.directory.proofs.Standing.{right-own, own-right}
 use Rattle.directory.proofs.testing.own.Statement.{statement}
 use Rattle.directory.proofs.testing.own.Tie as tie

@@ -5,7 +5,7 @@ use mathlib.Core.Logic.{inl}
 use borrow.Author.Needs.{needs}
 use native.Mathlib.Omega.{arith}
 use Rattle.index.specs.Calls.{blockNeeds}
-use Rattle.index.proofs.Firsts.{passed, answers-first, answers-next}
+use Rattle.index.proofs.laws.Firsts.{passed, answers-first, answers-next}
 use Rattle.directory.specs.Directory.{Own}
 use Rattle.directory.specs.By.{directoryNeeds}
 use Rattle.directory.proofs.testing.refused.Statement.{statement}

@@ -3,11 +3,11 @@ use Prim.Native.Nat.{_+_}
 use native.Mathlib.Omega.{arith}
 use borrow.Author.Needs.{needs}
 use Rattle.index.specs.Block.{from, size, place}
-use Rattle.index.specs.Checks.{Says}
-use Rattle.index.proofs.Answer.{yes-not, no-not, says-same}
-use Rattle.index.proofs.Records.{gap-in}
+use Rattle.index.specs.work.Checks.{Says}
+use Rattle.index.proofs.laws.Answer.{yes-not, no-not, says-same}
+use Rattle.index.proofs.laws.block.Records.{gap-in}
 use Rattle.directory.specs.Directory.{partStart}
-use Rattle.directory.specs.Entries.{Rises, Stands}
+use Rattle.directory.specs.work.Entries.{Rises, Stands}
 use Rattle.directory.proofs.OneDirectory.{part-in}
 use Rattle.directory.proofs.testing.right.Statement.{statement}
 use Rattle.directory.proofs.testing.right.Tie as tie

@@ -4,9 +4,9 @@ use mathlib.Core.Path.{_≡_}
 use native.Mathlib.Omega.{arith}
 use borrow.Author.Count.{below-none}
 use borrow.Author.Needs.{needs}
-use Rattle.index.specs.Checks.{Says}
-use Rattle.index.proofs.Answer.{says-same}
-use Rattle.directory.specs.Entries.{Steps}
+use Rattle.index.specs.work.Checks.{Says}
+use Rattle.index.proofs.laws.Answer.{says-same}
+use Rattle.directory.specs.work.Entries.{Steps}
 use Rattle.directory.proofs.Standing.{steps-more}
 use Rattle.directory.proofs.testing.rises.Statement.{statement}
 use Rattle.directory.proofs.testing.rises.Tie as tie

@@ -4,8 +4,8 @@ use mathlib.Core.Path.{_≡_}
 use native.Mathlib.Omega.{arith}
 use borrow.Author.Needs.{needs}
 use Rattle.index.specs.Block.{key, records, Good}
-use Rattle.index.proofs.Range.{from-none, from-more}
-use Rattle.directory.specs.Entries.{Lies, Stands}
+use Rattle.index.proofs.laws.Range.{from-none, from-more}
+use Rattle.directory.specs.work.Entries.{Lies, Stands}
 use Rattle.directory.proofs.Numbered.{pair-key}
 use Rattle.directory.proofs.testing.stands.Statement.{statement}
 use Rattle.directory.proofs.testing.stands.Tie as tie

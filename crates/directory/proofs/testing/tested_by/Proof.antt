@@ -1,6 +1,6 @@
 -- `testing::tested_by` meets its contract: where the directory is a good block's own, the tests of the block decide.
 use borrow.Author.Needs.{needs}
-use Rattle.index.proofs.Answer.{yes-not, no-not}
+use Rattle.index.proofs.laws.Answer.{yes-not, no-not}
 use Rattle.directory.proofs.Passing.{tested-own}
 use Rattle.directory.proofs.testing.tested_by.Statement.{statement}
 use Rattle.directory.proofs.testing.tested_by.Tie as tie

@@ -6,14 +6,14 @@ use mathlib.Core.Logic.{_⊎_, inl, inr}
 use borrow.Author.Needs.{needs}
 use Rattle.index.specs.declared.Kind.the-variants.{Membership}
 use Rattle.index.specs.Block.{id, Of, Good}
-use Rattle.index.specs.Doors.{Mask}
-use Rattle.index.proofs.Masks.{in-all, mask-map}
-use Rattle.index.proofs.Records.{of-records}
+use Rattle.index.specs.Letters.{Mask}
+use Rattle.index.proofs.laws.block.Masks.{in-all, mask-map}
+use Rattle.index.proofs.laws.block.Records.{of-records}
 use Rattle.rights.specs.Held.{Passes}
-use Rattle.rights.specs.Lookup.{Lets}
+use Rattle.rights.specs.work.Lookup.{Lets}
 use Rattle.directory.proofs.Numbered.{id-name, pair-id}
-use Rattle.rights.proofs.Filters.{passes}
-use Rattle.rights.proofs.Sifting.{Sifted, sifted-none, sifted-more, sifted-all}
+use Rattle.rights.proofs.laws.held.Filters.{passes}
+use Rattle.rights.proofs.laws.held.Sifting.{Sifted, sifted-none, sifted-more, sifted-all}
 use Rattle.rights.proofs.filter.filter_of.Statement.{statement}
 use Rattle.rights.proofs.filter.filter_of.Tie as tie
 

@@ -4,12 +4,12 @@ use mathlib.Core.Logic.{inl}
 use borrow.Author.Needs.{needs}
 use Rattle.index.specs.declared.Kind.the-variants.{Filter}
 use Rattle.index.specs.Letters.{In}
-use Rattle.index.specs.Doors.{NetAt}
-use Rattle.index.proofs.Masks.{mask-self, mask-map, mask-limited}
-use Rattle.index.proofs.Records.{of-records}
+use Rattle.index.specs.Block.{NetAt}
+use Rattle.index.proofs.laws.block.Masks.{mask-self, mask-map, mask-limited}
+use Rattle.index.proofs.laws.block.Records.{of-records}
 use Rattle.directory.proofs.Numbered.{has-record}
-use Rattle.rights.proofs.Filters.{lets}
-use Rattle.rights.proofs.Sifting.{Sifted, sifted-none, sifted-more, sifted-all}
+use Rattle.rights.proofs.laws.held.Filters.{lets}
+use Rattle.rights.proofs.laws.held.Sifting.{Sifted, sifted-none, sifted-more, sifted-all}
 use Rattle.rights.proofs.filter.narrowed.Statement.{statement}
 use Rattle.rights.proofs.filter.narrowed.Tie as tie
 

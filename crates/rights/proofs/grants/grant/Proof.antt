@@ -2,9 +2,9 @@
 use borrow.Author.Needs.{needs}
 use Rattle.index.specs.declared.Kind.the-variants.{Permission}
 use Rattle.index.specs.Letters.{In}
-use Rattle.index.specs.Doors.{NetAt}
-use Rattle.index.proofs.Masks.{in-zero, mask-none, mask-limited}
-use Rattle.index.proofs.Records.{of-records}
+use Rattle.index.specs.Block.{NetAt}
+use Rattle.index.proofs.laws.block.Masks.{in-zero, mask-none, mask-limited}
+use Rattle.index.proofs.laws.block.Records.{of-records}
 use Rattle.directory.proofs.Numbered.{has-record}
 use Rattle.rights.proofs.grants.grant.Statement.{statement}
 use Rattle.rights.proofs.grants.grant.Tie as tie

@@ -5,7 +5,7 @@ use native.Mathlib.Omega.{arith}
 use borrow.Author.Needs.{needs}
 use Rattle.index.specs.declared.Kind.the-variants.{Permission}
 use Rattle.index.specs.Block.{Of, key}
-use Rattle.index.proofs.Records.{of-records}
+use Rattle.index.proofs.laws.block.Records.{of-records}
 use Rattle.directory.proofs.Numbered.{key-name, keys-rise, pair-key}
 use Rattle.rights.proofs.grants.names_granted_on.Statement.{statement}
 use Rattle.rights.proofs.grants.names_granted_on.Tie as tie

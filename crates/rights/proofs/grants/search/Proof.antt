@@ -6,9 +6,9 @@ use native.Mathlib.Omega.{arith}
 use borrow.Author.Needs.{needs}
 use Rattle.index.specs.declared.Kind.the-variants.{Permission}
 use Rattle.index.specs.Block.{Of, key, id}
-use Rattle.index.proofs.Records.{of-records}
+use Rattle.index.proofs.laws.block.Records.{of-records}
 use Rattle.directory.proofs.Numbered.{id-name, keys-rise, pair-key, pair-id}
-use Rattle.rights.proofs.Granting.{Searched, searched-none, next-name, next-record, skip-record, seen-all, found-all}
+use Rattle.rights.proofs.laws.held.Granting.{Searched, searched-none, next-name, next-record, skip-record, seen-all, found-all}
 use Rattle.rights.proofs.grants.search.Statement.{statement}
 use Rattle.rights.proofs.grants.search.Tie as tie
 

@@ -3,8 +3,8 @@ use Prim.Native.Nat.{_+_, _-_, _/_, _≤_}
 use native.Mathlib.Omega.{arith}
 use borrow.Author.Needs.{needs}
 use Rattle.index.specs.Block.{Sized, from, size, records}
-use Rattle.index.proofs.Records.{gap-in}
-use Rattle.rights.proofs.Looking.{no-more, Window, window-all, halve, met}
+use Rattle.index.proofs.laws.block.Records.{gap-in}
+use Rattle.rights.proofs.laws.walk.Looking.{no-more, Window, window-all, halve, met}
 use Rattle.rights.proofs.lookup.lowest.Statement.{statement}
 use Rattle.rights.proofs.lookup.lowest.Tie as tie
 

@@ -5,10 +5,10 @@ use mathlib.Core.Logic.{inl, inr}
 use native.Mathlib.Omega.{arith}
 use borrow.Author.Needs.{needs}
 use Rattle.index.specs.Block.{from, size, key}
-use Rattle.index.proofs.Records.{gap-in}
+use Rattle.index.proofs.laws.block.Records.{gap-in}
 use Rattle.directory.proofs.ByEntry.{by-entry}
 use Rattle.directory.proofs.Numbered.{pair-key}
-use Rattle.rights.proofs.Looking.{Own, own-none, own-more, keyed, keyed-by}
+use Rattle.rights.proofs.laws.walk.Looking.{Own, own-none, own-more, keyed, keyed-by}
 use Rattle.rights.proofs.lookup.records_of.Statement.{statement}
 use Rattle.rights.proofs.lookup.records_of.Tie as tie
 

@@ -4,7 +4,7 @@ use mathlib.Core.Path.{_≡_, _∙_}
 use native.Mathlib.Omega.{arith}
 use borrow.Author.Needs.{needs}
 use lib.Bits.{and-mask, and-comm, and-shifted}
-use Rattle.rights.specs.Lookup.{wide}
+use Rattle.rights.specs.work.Lookup.{wide}
 use Rattle.rights.proofs.lookup.taken.Statement.{statement}
 use Rattle.rights.proofs.lookup.taken.Tie as tie
 

@@ -5,9 +5,9 @@ use mathlib.Core.List.{List}
 use mathlib.Core.Logic.{_↔_}
 use native.Mathlib.Omega.{arith}
 use borrow.Author.Needs.{needs}
-use Rattle.index.proofs.Masks.{mask-limited}
+use Rattle.index.proofs.laws.block.Masks.{mask-limited}
 use Rattle.rights.specs.Questions.{HoldsAll, Short, AsksAll}
-use Rattle.rights.proofs.Asking.{Asked, asked, positive, refused, accepts, filtered, covered}
+use Rattle.rights.proofs.laws.questions.Asking.{Asked, asked, positive, refused, accepts, filtered, covered}
 use Rattle.rights.proofs.questions.all_held.Statement.{statement}
 use Rattle.rights.proofs.questions.all_held.Tie as tie
 

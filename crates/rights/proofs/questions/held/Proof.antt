@@ -2,9 +2,9 @@
 use mathlib.Core.Path.{refl}
 use native.Mathlib.Omega.{arith}
 use borrow.Author.Needs.{needs}
-use Rattle.index.proofs.Masks.{mask-limited}
+use Rattle.index.proofs.laws.block.Masks.{mask-limited}
 use Rattle.rights.specs.Questions.{Reports, unreported, Full, Asks}
-use Rattle.rights.proofs.Asking.{Asked, asked, positive, refused, accepts, limited}
+use Rattle.rights.proofs.laws.questions.Asking.{Asked, asked, positive, refused, accepts, limited}
 use Rattle.rights.proofs.questions.held.Statement.{statement}
 use Rattle.rights.proofs.questions.held.Tie as tie
 

@@ -1,6 +1,6 @@
 -- `questions::may` meets its contract: the tests of the block, and then the question without a directory.
 use borrow.Author.Needs.{needs}
-use Rattle.rights.proofs.AskingBy.{lent-none, asks-all-refused}
+use Rattle.rights.proofs.laws.questions.AskingBy.{lent-none, asks-all-refused}
 use Rattle.rights.proofs.questions.may.Statement.{statement}
 use Rattle.rights.proofs.questions.may.Tie as tie
 

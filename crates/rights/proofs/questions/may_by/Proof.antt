@@ -1,6 +1,6 @@
 -- `questions::may_by` meets its contract: the tests of the block and of the directory, and then the question by it.
 use borrow.Author.Needs.{needs}
-use Rattle.rights.proofs.AskingBy.{lent-own, asks-all-by-refused, asks-all-by}
+use Rattle.rights.proofs.laws.questions.AskingBy.{lent-own, asks-all-by-refused, asks-all-by}
 use Rattle.rights.proofs.questions.may_by.Statement.{statement}
 use Rattle.rights.proofs.questions.may_by.Tie as tie
 

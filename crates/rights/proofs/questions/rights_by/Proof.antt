@@ -1,6 +1,6 @@
 -- `questions::rights_by` meets its contract: the tests of the block and of the directory, and then the question by it.
 use borrow.Author.Needs.{needs}
-use Rattle.rights.proofs.AskingBy.{lent-own, asks-by-refused, asks-by}
+use Rattle.rights.proofs.laws.questions.AskingBy.{lent-own, asks-by-refused, asks-by}
 use Rattle.rights.proofs.questions.rights_by.Statement.{statement}
 use Rattle.rights.proofs.questions.rights_by.Tie as tie
 

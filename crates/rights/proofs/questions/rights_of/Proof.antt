@@ -1,6 +1,6 @@
 -- `questions::rights_of` meets its contract: the tests of the block, and then the question without a directory.
 use borrow.Author.Needs.{needs}
-use Rattle.rights.proofs.AskingBy.{lent-none, asks-refused}
+use Rattle.rights.proofs.laws.questions.AskingBy.{lent-none, asks-refused}
 use Rattle.rights.proofs.questions.rights_of.Statement.{statement}
 use Rattle.rights.proofs.questions.rights_of.Tie as tie
 

@@ -2,13 +2,13 @@
 use borrow.Author.Needs.{needs}
 use Rattle.index.specs.declared.Kind.the-variants.{Membership}
 use Rattle.index.specs.Block.{key, id}
-use Rattle.index.proofs.Masks.{mask-map, mask-all}
-use Rattle.index.proofs.Records.{of-records}
+use Rattle.index.proofs.laws.block.Masks.{mask-map, mask-all}
+use Rattle.index.proofs.laws.block.Records.{of-records}
 use Rattle.rights.specs.declared.walk.Carry.the-variants.{Rights, Member}
 use Rattle.rights.specs.Held.{Carries}
-use Rattle.rights.specs.Marks.{Carried}
+use Rattle.rights.specs.work.Marks.{Carried}
 use Rattle.directory.proofs.Numbered.{has-record}
-use Rattle.rights.proofs.ByNumber.{at-self, is-at, net-at}
+use Rattle.rights.proofs.laws.ByNumber.{at-self, is-at, net-at}
 use Rattle.rights.proofs.walk.carried.Statement.{statement}
 use Rattle.rights.proofs.walk.carried.Tie as tie
 

@@ -4,7 +4,7 @@ use mathlib.Core.Path.{_≡_, refl}
 use mathlib.Core.Bool.{Bool, true, false, _&&_, not}
 use borrow.Author.Tests.{eqb-true, eqb-false}
 use lib.Dec.{eqb}
-use Rattle.index.specs.Checks.{Says}
+use Rattle.index.specs.work.Checks.{Says}
 use Rattle.rights.proofs.walk.joins.Statement.{statement}
 use Rattle.rights.proofs.walk.joins.Tie as tie
 

@@ -6,9 +6,9 @@ use native.Mathlib.Omega.{arith}
 use borrow.Author.Needs.{needs}
 use lib.ListN.{getD}
 use Rattle.index.specs.Block.{IsName}
-use Rattle.rights.specs.Fronts.{Firsts, Turn}
-use Rattle.rights.proofs.ByNumber.{no-more-members}
-use Rattle.rights.proofs.Starting.{turn-of, turns-more, known, now, firsts-set, turns-set}
+use Rattle.rights.specs.work.Fronts.{Firsts, Turn}
+use Rattle.rights.proofs.laws.ByNumber.{no-more-members}
+use Rattle.rights.proofs.laws.walk.Starting.{turn-of, turns-more, known, now, firsts-set, turns-set}
 use Rattle.rights.proofs.walk.look_up.Statement.{statement}
 use Rattle.rights.proofs.walk.look_up.Tie as tie
 

@@ -5,10 +5,10 @@ use native.Mathlib.Omega.{arith}
 use borrow.Author.Needs.{needs}
 use Rattle.index.specs.declared.Kind.the-variants.{Membership}
 use Rattle.index.specs.Block.{size}
-use Rattle.rights.specs.Fronts.{Rooms, Through, Swept}
-use Rattle.rights.proofs.Counting.{count-none}
-use Rattle.rights.proofs.Fronts.{front-none}
-use Rattle.rights.proofs.Rounding.{spread-none}
+use Rattle.rights.specs.work.Fronts.{Rooms, Through, Swept}
+use Rattle.rights.proofs.laws.Counting.{count-none}
+use Rattle.rights.proofs.laws.walk.Fronts.{front-none}
+use Rattle.rights.proofs.laws.walk.Rounding.{spread-none}
 use Rattle.rights.proofs.walk.round.Statement.{statement}
 use Rattle.rights.proofs.walk.round.Tie as tie
 

@@ -10,16 +10,16 @@ use lib.ListN.{length, getD, set, length-set}
 use lib.Bits.{bitOr, bitAnd, or-add-and, and-le-r}
 use Rattle.index.specs.declared.Kind.the-variants.{Membership}
 use Rattle.index.specs.Block.{nameCount, IsName, size, Of, key, id}
-use Rattle.index.proofs.Answer.{yes-is, no-is}
-use Rattle.index.proofs.Records.{of-records}
+use Rattle.index.proofs.laws.Answer.{yes-is, no-is}
+use Rattle.index.proofs.laws.block.Records.{of-records}
 use Rattle.rights.specs.Examined.{HowMany}
-use Rattle.rights.specs.Fronts.{Rooms, Front, Spread, Through}
+use Rattle.rights.specs.work.Fronts.{Rooms, Front, Spread, Through}
 use Rattle.directory.proofs.Numbered.{id-name, pair-key, pair-id}
-use Rattle.rights.proofs.ByNumber.{few-members}
-use Rattle.rights.proofs.Counting.{at-most}
-use Rattle.rights.proofs.Fronts.{front-few, front-keep, front-push}
-use Rattle.rights.proofs.Looking.{Own, own-none, own-more}
-use Rattle.rights.proofs.Rounding.{Upto, spread-map, spread-set, upto-none, upto-more, through-more, counted-more}
+use Rattle.rights.proofs.laws.ByNumber.{few-members}
+use Rattle.rights.proofs.laws.Counting.{at-most}
+use Rattle.rights.proofs.laws.walk.Fronts.{front-few, front-keep, front-push}
+use Rattle.rights.proofs.laws.walk.Looking.{Own, own-none, own-more}
+use Rattle.rights.proofs.laws.walk.Rounding.{Upto, spread-map, spread-set, upto-none, upto-more, through-more, counted-more}
 use Rattle.rights.proofs.walk.spread.Statement.{statement}
 use Rattle.rights.proofs.walk.spread.Tie as tie
 

@@ -1,0 +1,31 @@
+-- A record has a count above zero, four at a time.
+use native.Mathlib.Omega.{arith}
+use borrow.Author.Needs.{needs}
+use Rattle.index.proofs.laws.block.Checked.{letters-four, counted-of, after-none, not-counted}
+use Rattle.index.proofs.block.checks.has_count.Statement.{statement}
+use Rattle.index.proofs.block.checks.has_count.Tie as tie
+
+returns : tie.Need-returns
+returns c = λ _. counted-of _ _ 0 (omega arith) (omega arith)
+
+returns-2 : tie.Need-returns-2
+returns-2 c =
+    λ a. not-counted _ _ (omega arith) (λ k l. a k (omega (arith, letters-four (c .before .before .before .before .before .args .kind) (omega arith))))
+
+returns-3 : tie.Need-returns-3
+returns-3 c = λ _. not-counted _ _ (omega arith) (after-none _ _ 4 (omega arith) (omega arith))
+
+returns-4 : tie.Need-returns-4
+returns-4 c = λ _. counted-of _ _ 4 (omega arith) (omega arith)
+
+pub has-count-spec : {M : Type 1} → statement M
+has-count-spec =
+    tie.close
+    (tie.spec
+    (λ c κs. search needs)
+    returns
+    (λ c κs. search needs)
+    returns-2
+    (λ c κs. search needs)
+    returns-3
+    returns-4)

@@ -1,0 +1,24 @@
+-- 01, "The block": its laws in reading order.
+-- Bytes and numbers.
+pub mod Stores
+pub mod Filling
+pub mod Bytes
+pub mod Seen
+-- Records: they rise, each is there once; where one is found.
+pub mod ThreeKinds
+pub mod Records
+pub mod Finding
+-- A good block: what it is made of, tests of it, and that its counts fix it.
+pub mod Together
+pub mod Checked
+pub mod GoodTest
+pub mod Canonical
+-- How a block is changed: its header, an empty one, records in the place of others.
+pub mod Sizes
+pub mod Empty
+pub mod Splice
+pub mod SpliceThen
+-- The doors: the net mask of a record, and one answer each.
+pub mod Masks
+pub mod Joining
+pub mod OneDoor

@@ -1,0 +1,19 @@
+-- 01, "The message": its laws in reading order.
+-- Halves: the letters of a mask, a statement's record, the halves of a message.
+pub mod HalfLetters
+pub mod Formula
+pub mod Halves
+-- One change: the counts of a record, and what comes of them in a block.
+pub mod Recount
+pub mod Changes
+pub mod Edited
+pub mod Steps
+-- Changes one after the other, and as numbers.
+pub mod OneMessage
+pub mod Running
+pub mod Packing
+pub mod ListTests
+pub mod StaysGood
+-- Tests that compute.
+pub mod ChangeTest
+pub mod MessageTest

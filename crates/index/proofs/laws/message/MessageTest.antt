@@ -1,0 +1,143 @@
+-- A test of an accepted message that computes: where it says yes, the message leaves the last of the blocks given.
+use Prim.Native.Nat.{ℕ, _+_, _/_, _%_, _^_, _<_, _≤_}
+use mathlib.Core.Path.{_≡_, refl, sym, _∙_}
+use mathlib.Core.Bool.{Bool, true, false, cond, _&&_}
+use mathlib.Core.List.{List, [], _∷_, _++_}
+use mathlib.Core.Logic.{_⊎_, inl, inr}
+use native.Mathlib.Omega.{arith}
+use borrow.Author.Tests.{eqb-true, ltb-true, leb-true, eq-eqb}
+use lib.Dec.{eqb, ltb, leb}
+use lib.ListN.{length, getD}
+use Rattle.index.specs.Letters.{letterCount, lettersOf}
+use Rattle.index.specs.Block.{greatestCount, nameCount, headerLength, greatestLength, Sized, Good, records, room}
+use Rattle.index.specs.Message.{IsKind, Half, flags, Blank, WellFormed, Named, Masked, Change, changes, ownCount, changeNeeds, Changed, Carried, previous, new}
+use Rattle.index.specs.Message.Change.{take, add}
+use Rattle.index.specs.Numbers.{Each}
+use Rattle.index.specs.Calls.{Message, messageNeeds, blockNeeds}
+use Rattle.index.specs.work.Edits.{bit}
+use Rattle.index.proofs.laws.Tests.{both, all, all-at, some, some-at}
+use Rattle.index.proofs.laws.block.GoodTest.{goodTest, good-test}
+use Rattle.index.proofs.laws.message.ChangeTest.{changeTest, change-test}
+
+-- ---- what a change needs
+
+abbrev needTest : Change → List ℕ → Bool
+needTest (take h) b = all (λ k. leb (bit (h .mask) k) (ownCount b h k)) 0 letterCount
+needTest (add h) b =
+    all (λ k. leb (ownCount b h k + bit (h .mask) k) greatestCount) 0 letterCount
+    && cond (some (λ k. ltb 0 (ownCount b h k)) 0 letterCount) true (ltb (records b) (room b))
+
+room-test : (b : List ℕ) (h : Half) (t : Bool) → some (λ k. ltb 0 (ownCount b h k)) 0 letterCount ≡ t
+    → cond t true (ltb (records b) (room b)) ≡ true
+    → ((k : ℕ) × (k < letterCount) × (0 < ownCount b h k)) ⊎ (records b < room b)
+room-test b h true q e =
+    let s = some-at (λ k. ltb 0 (ownCount b h k)) 0 letterCount q in
+    inl (s .0, omega (arith, s .1), ltb-true _ _ (s .2))
+room-test b h false q e = inr (ltb-true _ _ e)
+
+-- The changes, one after the other, through the blocks given.
+abbrev carryTest : List Change → List ℕ → List (List ℕ) → Bool
+carryTest [] b [] = true
+carryTest [] b (d ∷ ds) = false
+carryTest (c ∷ cs) b [] = false
+carryTest (c ∷ cs) b (d ∷ ds) = needTest c b && (changeTest c b d && carryTest cs d ds)
+
+abbrev pub lastOf : List ℕ → List (List ℕ) → List ℕ
+lastOf b [] = b
+lastOf b (d ∷ ds) = lastOf d ds
+
+step-test : (b₀ b d : List ℕ) (c : Change) (o : ℕ × List ℕ) (cs : List Change) → needTest c b ≡ true → Changed c b d → Carried b₀ cs d o
+    → Carried b₀ (c ∷ cs) b o
+unfolding Carried changeNeeds
+step-test b₀ b d (take h) o cs e w r =
+    let f : ℕ → Bool = λ k. leb (h .mask / 2 ^ k % 2) (ownCount b h k) in
+    inr (λ k l i. omega (arith, leb-true (h .mask / 2 ^ k % 2) (ownCount b h k) (all-at f 0 letterCount e k (omega arith) (omega arith))), (d, w, r))
+step-test b₀ b d (add h) o cs e w r =
+    let f : ℕ → Bool = λ k. leb (ownCount b h k + h .mask / 2 ^ k % 2) greatestCount in
+    let p = both (all f 0 letterCount) _ e in
+    inr (
+      λ k l i.
+          omega (arith, leb-true (ownCount b h k + h .mask / 2 ^ k % 2) greatestCount (all-at f 0 letterCount (p .0) k (omega arith) (omega arith))),
+      inr (room-test b h _ refl (p .1), (d, w, r)),
+    )
+
+carry-test : (b₀ : List ℕ) (cs : List Change) (b : List ℕ) (ds : List (List ℕ)) → carryTest cs b ds ≡ true
+    → Carried b₀ cs b (0, lastOf b ds)
+unfolding Carried
+carry-test b₀ [] b [] e = refl
+carry-test b₀ [] b (d ∷ ds) e = let z : _≡_ {A = ℕ} 0 1 = cc in absurd (omega arith)
+carry-test b₀ (c ∷ cs) b [] e = let z : _≡_ {A = ℕ} 0 1 = cc in absurd (omega arith)
+carry-test b₀ (c ∷ cs) b (d ∷ ds) e =
+    let p = both (needTest c b) _ e in
+    let q = both (changeTest c b d) _ (p .1) in
+    step-test b₀ b d c (0, lastOf d ds) cs (p .0) (change-test c b d (q .0)) (carry-test b₀ cs d ds (q .1))
+
+-- ---- the message itself
+
+abbrev blankTest : List ℕ → ℕ → ℕ → Bool
+blankTest m flag i = cond (eqb (flags m) flag) (all (λ j. eqb (getD m j 0) 0) i 5) true
+
+blank-test : (m : List ℕ) (flag i : ℕ) → blankTest m flag i ≡ true → flags m ≡ flag → Blank m i
+unfolding Blank
+blank-test m flag i e f j l h =
+    eqb-true _ _ (all-at (λ j. eqb (getD m j 0) 0) i 5 (rw (eq-eqb (flags m) flag f) at e) j l h)
+
+abbrev formTest : List ℕ → Bool
+formTest m =
+    eqb (length m) 12
+    && (leb 1 (getD m 0 0)
+    && (leb (getD m 0 0) 3 && (leb 1 (flags m) && (leb (flags m) 3 && (blankTest m 2 2 && blankTest m 1 7)))))
+
+form-test : (m : List ℕ) → formTest m ≡ true → WellFormed m
+unfolding IsKind
+form-test m e =
+    let p = both (eqb (length m) 12) _ e in
+    let q = both (leb 1 (getD m 0 0)) _ (p .1) in
+    let r = both (leb (getD m 0 0) 3) _ (q .1) in
+    let s = both (leb 1 (flags m)) _ (r .1) in
+    let t = both (leb (flags m) 3) _ (s .1) in
+    let u = both (blankTest m 2 2) (blankTest m 1 7) (t .1) in
+    record {
+      twelve = eqb-true _ _ (p .0);
+      kind = (leb-true _ _ (q .0), leb-true _ _ (r .0));
+      some-half = (leb-true _ _ (s .0), leb-true _ _ (t .0));
+      no-previous = blank-test m 2 2 (u .0);
+      no-new = blank-test m 1 7 (u .1);
+    }
+
+abbrev halvesTest : List Half → Bool
+halvesTest [] = true
+halvesTest (h ∷ hs) =
+    ltb (h .key) nameCount
+    && (ltb (h .id) nameCount && (ltb 0 (h .mask) && (ltb (h .mask) (2 ^ lettersOf (h .kind)) && halvesTest hs)))
+
+halves-test : (hs : List Half) → halvesTest hs ≡ true → Each Named hs × Each Masked hs
+unfolding Named Masked
+halves-test [] e = (tt, tt)
+halves-test (h ∷ hs) e =
+    let p = both (ltb (h .key) nameCount) _ e in
+    let q = both (ltb (h .id) nameCount) _ (p .1) in
+    let r = both (ltb 0 (h .mask)) _ (q .1) in
+    let s = both (ltb (h .mask) (2 ^ lettersOf (h .kind))) (halvesTest hs) (r .1) in
+    let w = halves-test hs (s .1) in
+    (((ltb-true _ _ (p .0), ltb-true _ _ (q .0)), w .0), ((ltb-true _ _ (r .0), ltb-true _ _ (s .0)), w .1))
+
+abbrev pub messageTest : List ℕ → List ℕ → List (List ℕ) → Bool
+messageTest b m ds =
+    leb headerLength (length b)
+    && (leb (length b) greatestLength
+    && (goodTest b && (formTest m && (halvesTest (previous m ++ new m) && carryTest (changes m) b ds))))
+
+pub message-test : (b m : List ℕ) (ds : List (List ℕ)) → messageTest b m ds ≡ true → Message b m (0, lastOf b ds)
+unfolding Message messageNeeds blockNeeds Sized
+message-test b m ds e =
+    let p = both (leb headerLength (length b)) _ e in
+    let q = both (leb (length b) greatestLength) _ (p .1) in
+    let r = both (goodTest b) _ (q .1) in
+    let s = both (formTest m) _ (r .1) in
+    let t = both (halvesTest (previous m ++ new m)) _ (s .1) in
+    let h = halves-test (previous m ++ new m) (t .0) in
+    inr (
+      (leb-true _ _ (p .0), leb-true _ _ (q .0)),
+      inr (good-test b (r .0), inr (form-test m (s .0), inr (h .0, inr (h .1, carry-test b (changes m) b ds (t .1))))),
+    )

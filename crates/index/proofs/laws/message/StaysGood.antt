@@ -1,0 +1,19 @@
+-- Whatever a message's number, the block is good and as long as before.
+use Prim.Native.Nat.{ℕ}
+use mathlib.Core.Path.{_≡_, refl, _∙_}
+use mathlib.Core.List.{List}
+use lib.ListN.{length}
+use Rattle.index.specs.Block.{Good}
+use Rattle.index.specs.Message.{changes}
+use Rattle.index.specs.Calls.{Message}
+use Rattle.index.proofs.laws.message.OneMessage.{run-cases, message-cases}
+
+pub stays-good : (b m : List ℕ) (o : ℕ × List ℕ) → Message b m o → Good b → Good (o .1) × (length (o .1) ≡ length b)
+stays-good b m o h g =
+    message-cases b m (λ o. Good (o .1) × (length (o .1) ≡ length b)) (λ n l. (g, refl))
+    (λ o r.
+    run-cases (λ _ cs d o. Good d → length d ≡ length b → Good (o .1) × (length (o .1) ≡ length b)) b (λ cs d n l k e. (g, refl))
+    (λ d k e. (k, e))
+    (λ c cs d d₁ o w p k e. p (w .good) (w .same-length ∙ e))
+    (changes m) b o r g refl)
+    o h

@@ -1,0 +1,201 @@
+// Is a block good?
+
+use crate::GREATEST;
+use crate::HEADER;
+use crate::Kind;
+use crate::LETTER_COUNT;
+use crate::NAMES;
+use crate::RECORD;
+use crate::RIGHTS;
+use crate::block::letters::letters_of;
+use crate::block::numbers::number_at;
+use crate::block::numbers::pair_at;
+use crate::block::places::first_of;
+use crate::block::places::size_at;
+ghost use mathlib.Core.Path.{_≡_};
+ghost use Prim.Native.Nat.{_+_, _≤_};
+ghost use lib.ListN.{length};
+ghost use Rattle.index.specs.Letters.{letterCount, lettersOf};
+ghost use Rattle.index.specs.Block.{headerLength, place, key, id, from, size, records, Good};
+ghost use Rattle.index.specs.work.Bytes.{Pair};
+ghost use Rattle.index.specs.work.Edits.{fourAt};
+ghost use Rattle.index.specs.work.Checks.{Says, Header, Counted, Allowed, Part, Zero};
+ghost use Rattle.index.specs.Calls.{blockNeeds};
+ghost use Rattle.index.specs.Numbers.{Answers};
+
+// The numbers in a block are below this one.
+const NUMBERS: u32 = 65536;
+
+// Two of them, put together to one number, are below this one.
+const PAIRS: usize = 4294967296;
+
+// The header agrees with the parts, and the parts fit in the block.
+fn header_good(b: &[u8]) -> bool
+    requires { ⌜ headerLength ≤ length (now b) ⌝ }
+    ensures { λ r. ⌜ Says (Header (now (b .entry))) r ⌝ }
+{
+    let m = number_at(b, 0);
+    let p = number_at(b, 2);
+    let f = number_at(b, 4);
+    let zero = number_at(b, 6);
+    let m_offset = number_at(b, 8);
+    let p_offset = number_at(b, 10);
+    let f_offset = number_at(b, 12);
+    let end = number_at(b, 14);
+    if zero != 0 {
+        return false;
+    }
+    if m_offset != HEADER {
+        return false;
+    }
+    if p_offset != HEADER + RECORD * m {
+        return false;
+    }
+    if f_offset != HEADER + RECORD * (m + p) {
+        return false;
+    }
+    if end != HEADER + RECORD * (m + p + f) {
+        return false;
+    }
+    if end > b.len() {
+        return false;
+    }
+    true
+}
+
+// The counts of the four letters from k on in record i, as one number: the eight bytes are looked at in one go.
+fn four_at(b: &[u8], i: usize, k: usize) -> usize
+    requires { ⌜ (place (i + 1) ≤ length (now b)) × (k + 4 ≤ letterCount) ⌝ }
+    ensures { λ r. ⌜ r ≡ fourAt (now (b .entry)) i k ⌝ }
+{
+    let at = HEADER + RECORD * i + 4 + 2 * k;
+    (pair_at(b, at) as usize) + PAIRS * (pair_at(b, at + 4) as usize)
+}
+
+// The counts that record i may not have as one of the kind, as one number: those of the small letters, or none.
+fn small_at(b: &[u8], kind: Kind, i: usize) -> usize
+    requires { ⌜ place (i + 1) ≤ length (now b) ⌝ }
+    ensures { λ r. ⌜ r ≡ fourAt (now (b .entry)) i (lettersOf kind) ⌝ }
+{
+    if letters_of(kind) >= LETTER_COUNT {
+        return 0;
+    }
+    four_at(b, i, RIGHTS)
+}
+
+// Whether record i has a count above zero, provided that it has no count which it may not have as one of the kind.
+fn has_count(b: &[u8], kind: Kind, i: usize) -> bool
+    requires { ⌜ place (i + 1) ≤ length (now b) ⌝ }
+    ensures { λ r. ⌜ (Allowed (now (b .entry)) kind i → Says (Counted (now (b .entry)) i) r) ⌝ }
+{
+    if four_at(b, i, 0) != 0 {
+        return true;
+    }
+    if letters_of(kind) < LETTER_COUNT {
+        return false;
+    }
+    if four_at(b, i, RIGHTS) == 0 {
+        return false;
+    }
+    true
+}
+
+// Key and id of record i as one number, the key in the high half: records rise by it, whatever their keys and ids are.
+fn rank_at(b: &[u8], i: usize) -> u32
+    requires { ⌜ place (i + 1) ≤ length (now b) ⌝ }
+    ensures { λ r. ⌜ Pair (id (now (b .entry)) i) (key (now (b .entry)) i) r ⌝ }
+{
+    let pair = pair_at(b, HEADER + RECORD * i);
+    NUMBERS * (pair % NUMBERS) + pair / NUMBERS
+}
+
+// The records numbered i to j - 1, as ones of the kind. Each stands at `least` or higher by key and id. All keys and ids
+// are joined in `names`, so that after the last record one look at it tells whether they are names. All counts that they
+// may not have are joined in `small`, which must be zero then.
+fn part_good(b: &[u8], kind: Kind, i: usize, j: usize) -> bool
+    requires { ⌜ place j ≤ length (now b) ⌝ }
+    ensures { λ r. ⌜ Says (Part (now (b .entry)) kind i j) r ⌝ }
+{
+    let mut n = i;
+    let mut least = 0;
+    let mut names = 0u32;
+    let mut small = 0;
+    while n < j {
+        let rank = rank_at(b, n);
+        if (rank as usize) < least {
+            return false;
+        }
+        if !has_count(b, kind, n) {
+            return false;
+        }
+        names |= rank;
+        small |= small_at(b, kind, n);
+        least = (rank as usize) + 1;
+        n += 1;
+    }
+    if small != 0 {
+        return false;
+    }
+    if names / NUMBERS >= (NAMES as u32) {
+        return false;
+    }
+    names % NUMBERS < (NAMES as u32)
+}
+
+// The records of the kind.
+fn kind_good(b: &[u8], kind: Kind) -> bool
+    requires { ⌜ (headerLength ≤ length (now b)) × (place (records (now b)) ≤ length (now b)) ⌝ }
+    ensures { λ r. ⌜ Says (Part (now (b .entry)) kind (from (now (b .entry)) kind) (from (now (b .entry)) kind + size (now (b .entry)) kind)) r ⌝ }
+{
+    let i = first_of(b, kind);
+    part_good(b, kind, i, i + size_at(b, kind))
+}
+
+// Every byte from j on is zero.
+fn zero_from(b: &[u8], j: usize) -> bool
+    ensures { λ r. ⌜ Says (Zero (now (b .entry)) j) r ⌝ }
+{
+    let mut t = j;
+    let mut seen = 0u8;
+    while t < b.len() {
+        seen |= b[t];
+        t += 1;
+    }
+    seen == 0
+}
+
+// The block is good.
+fn good(b: &[u8]) -> bool
+    requires { ⌜ headerLength ≤ length (now b) ⌝ }
+    ensures { λ r. ⌜ Says (Good (now (b .entry))) r ⌝ }
+{
+    if !header_good(b) {
+        return false;
+    }
+    if !kind_good(b, Kind::Membership) {
+        return false;
+    }
+    if !kind_good(b, Kind::Permission) {
+        return false;
+    }
+    if !kind_good(b, Kind::Filter) {
+        return false;
+    }
+    zero_from(b, number_at(b, 14))
+}
+
+// 1 for a block that is not 16 to 40,976 bytes long, 2 for one that is not good, else 0.
+pub fn tested(b: &[u8]) -> u8
+    ensures { λ r. ⌜ Answers (blockNeeds (now (b .entry))) r ⌝ }
+{
+    if b.len() < HEADER {
+        return 1;
+    }
+    if b.len() > GREATEST {
+        return 1;
+    }
+    if !good(b) {
+        return 2;
+    }
+    0
+}

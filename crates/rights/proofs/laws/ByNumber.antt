@@ -1,0 +1,54 @@
+-- A record by its kind, key and id, and by its number.
+use Prim.Native.Nat.{ℕ, _+_, _^_, _<_, _≤_}
+use mathlib.Core.Path.{refl, sym, _∙_}
+use mathlib.Core.List.{List}
+use mathlib.Core.Logic.{_↔_, ⊎-elim}
+use native.Mathlib.Omega.{arith}
+use Rattle.index.specs.declared.Kind.{Kind}
+use Rattle.index.specs.declared.Kind.the-variants.{Membership}
+use Rattle.index.specs.Letters.{rightCount}
+use Rattle.index.specs.Block.{size, Of, key, id, Sized, Good, count, NetAt}
+use Rattle.index.specs.work.Places.{At}
+use Rattle.index.proofs.laws.block.Bytes.{number-small}
+use Rattle.index.proofs.laws.block.Records.{gap-in, where-is, count-at, count-none, of-records}
+use Rattle.rights.specs.Held.{Is, Net}
+
+-- The size of the M part is a 16-bit number.
+pub few-members : {b : List ℕ} → Good b → size b Membership < 2 ^ 16
+few-members {b} g = number-small b 0 (g .bytes)
+
+-- A block that is not too long has room for so many.
+pub no-more-members : {b : List ℕ} → Sized b → Good b → size b Membership ≤ 2048
+unfolding Sized
+no-more-members {b} sized g = omega (arith, sized, g .fits, gap-in Membership b (size b Membership) (omega arith))
+
+pub at-self : {b : List ℕ} {kind : Kind} {i : ℕ} → Of b kind i → At b kind (key b i) (id b i) i
+at-self of = record { of = of; has-key = refl; has-id = refl }
+
+module _ {b : List ℕ} (g : Good b) (kind : Kind) where
+  module _ {x y : ℕ} where
+    counted : (k : ℕ) → 0 < count b kind x y k → (i : ℕ) × At b kind x y i
+    counted k pos = ⊎-elim (λ a. a) (λ n. absurd (omega (arith, count-none b kind x y k n))) (where-is b x y kind)
+
+    pub is-where : Is b kind x y → (i : ℕ) × At b kind x y i
+    unfolding Is
+    is-where is = counted (is .0) (is .2)
+
+    pub is-at : {i : ℕ} → At b kind x y i → Is b kind x y
+    unfolding Is
+    is-at {i} a =
+        let c = g .counted i (of-records kind b i (a .of)) in
+        (c .0, c .1, rw (count-at g kind x y i (c .0) a) (c .2))
+
+    pub net-at : {i : ℕ} (k : ℕ) → k < rightCount → At b kind x y i → NetAt b i k ↔ Net b kind x y k
+    unfolding Net
+    net-at {i} k h a =
+        let big = count-at g kind x y i k a in
+        let small = count-at g kind x y i (k + rightCount) a in
+        ((λ n. (h, rw big (n .0), small ∙ n .1)), (λ n. (rw big at (n .1), sym small ∙ n .2)))
+
+    pub net-where : (k : ℕ) → Net b kind x y k → (i : ℕ) × At b kind x y i × NetAt b i k
+    unfolding Net
+    net-where k n =
+        let w = counted k (n .1) in
+        (w .0, w .1, net-at k (n .0) (w .1) .1 n)

@@ -1,0 +1,11 @@
+-- 01, "User u holds right b on object o": its laws in reading order.
+-- The filters.
+pub mod Filters
+pub mod Sifting
+-- The grants between the two sides.
+pub mod Granting
+pub mod Sides
+-- Tests that compute.
+pub mod ChainTest
+pub mod FilterTest
+pub mod HoldsTest

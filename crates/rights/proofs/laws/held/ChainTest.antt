@@ -1,0 +1,159 @@
+-- A test of chains that computes: the names that chains of at most n records lead to, as a list.
+use Prim.Native.Nat.{ℕ, zero, suc, _+_, _<_, _≤_}
+use mathlib.Core.Path.{_≡_, refl, sym, subst}
+use mathlib.Core.Bool.{Bool, true, false, cond, _&&_}
+use mathlib.Core.List.{List, [], _∷_}
+use mathlib.Core.Logic.{_⊎_, _↔_, inl, inr, ⊎-elim}
+use native.Mathlib.Omega.{arith}
+use native.Mathlib.Nat.{eq-or-lt-of-le}
+use borrow.Author.Tests.{eqb-true, eq-eqb, ltb-true, lt-ltb}
+use lib.Dec.{eqb, ltb}
+use Rattle.index.specs.declared.Kind.the-variants.{Membership}
+use Rattle.index.specs.Letters.{rightCount}
+use Rattle.index.specs.Block.{size, key, id, Of, countAt, Good, NetAt}
+use Rattle.index.proofs.laws.Tests.{both}
+use Rattle.rights.specs.Chain.{Chain}
+use Rattle.rights.specs.Held.{Carries}
+use Rattle.rights.specs.Chain.Chain.{here}
+use Rattle.rights.proofs.laws.ByNumber.{at-self, net-at, net-where}
+use Rattle.rights.proofs.laws.walk.MarksAreChains.{stays, one-more}
+
+pub and-true : {s t : Bool} → s ≡ true → t ≡ true → s && t ≡ true
+and-true p q = rw (p, q) refl
+
+-- The name is in the list.
+abbrev pub member : ℕ → List ℕ → Bool
+member x [] = false
+member x (y ∷ l) = cond (eqb x y) true (member x l)
+
+pub member-first : (x y : ℕ) (l : List ℕ) → member x (y ∷ l) ≡ true → (x ≡ y) ⊎ (member x l ≡ true)
+member-first x y l = go (eqb x y) refl
+  where
+    go : (t : Bool) → eqb x y ≡ t → cond t true (member x l) ≡ true → (x ≡ y) ⊎ (member x l ≡ true)
+    go true e h = inl (eqb-true x y e)
+    go false e h = inr h
+
+pub member-own : (x : ℕ) (l : List ℕ) → member x (x ∷ l) ≡ true
+member-own x l = rw (eq-eqb x x refl) refl
+
+pub member-later : (x y : ℕ) (l : List ℕ) → member x l ≡ true → member x (y ∷ l) ≡ true
+member-later x y l h = go (eqb x y)
+  where
+    go : (t : Bool) → cond t true (member x l) ≡ true
+    go true = refl
+    go false = h
+
+-- Right k is in the net mask of record i.
+abbrev pub netTest : List ℕ → ℕ → ℕ → Bool
+netTest b k i = ltb 0 (countAt b i k) && eqb (countAt b i (k + rightCount)) 0
+
+pub net-test : (b : List ℕ) (k i : ℕ) → (netTest b k i ≡ true) ↔ NetAt b i k
+net-test b k i = (
+  (λ e. let p = both (ltb 0 (countAt b i k)) _ e in (ltb-true _ _ (p .0), eqb-true _ _ (p .1))),
+  (λ n. and-true (lt-ltb _ _ (n .0)) (eq-eqb _ _ (n .1))),
+)
+
+module _ (b : List ℕ) (k : ℕ) where
+  -- Record i carries right k on from a name of the list.
+  abbrev carryTest : List ℕ → ℕ → Bool
+  carryTest old i = member (key b i) old && netTest b k i
+
+  -- The list with the ids of those of the n records from i on that do.
+  abbrev grow : List ℕ → List ℕ → ℕ → ℕ → List ℕ
+  grow old l i zero = l
+  grow old l i (suc n) = grow old (cond (carryTest old i) (id b i ∷ l) l) (i + 1) n
+
+  -- The list with what the records carry on from it.
+  abbrev again : List ℕ → List ℕ
+  again l = grow l l 0 (size b Membership)
+
+  -- The names that chains of at most n records lead to from u.
+  abbrev pub spread : ℕ → ℕ → List ℕ
+  spread zero u = u ∷ []
+  spread (suc n) u = again (spread n u)
+
+  abbrev Grown : List ℕ → ℕ → ℕ → ℕ → Type 0
+  Grown old z i n = (j : ℕ) × (i ≤ j) × (j < i + n) × (id b j ≡ z) × (carryTest old j ≡ true)
+
+  module _ (old : List ℕ) (z : ℕ) where
+    grown : (l : List ℕ) (i n : ℕ) → member z (grow old l i n) ≡ true → (member z l ≡ true) ⊎ Grown old z i n
+    grown l i zero h = inl h
+    grown l i (suc n) h = go (carryTest old i) refl (grown (cond (carryTest old i) (id b i ∷ l) l) (i + 1) n h)
+      where
+        go : (t : Bool) → carryTest old i ≡ t → (member z (cond t (id b i ∷ l) l) ≡ true) ⊎ Grown old z (i + 1) n
+            → (member z l ≡ true) ⊎ Grown old z i (suc n)
+        go true e (inl m) =
+            ⊎-elim (λ q. inr (i, omega arith, omega arith, sym q, e)) (λ m. inl m) (member-first z (id b i) l m)
+        go false e (inl m) = inl m
+        go t e (inr w) = inr (w .0, omega (arith, w .1), omega (arith, w .2), w .3, w .4)
+
+    grow-old : (l : List ℕ) (i n : ℕ) → member z l ≡ true → member z (grow old l i n) ≡ true
+    grow-old l i zero m = m
+    grow-old l i (suc n) m = grow-old (cond (carryTest old i) (id b i ∷ l) l) (i + 1) n (go (carryTest old i))
+      where
+        go : (t : Bool) → member z (cond t (id b i ∷ l) l) ≡ true
+        go true = member-later z (id b i) l m
+        go false = m
+
+    grow-new : (l : List ℕ) (i n : ℕ) → Grown old z i n → member z (grow old l i n) ≡ true
+    grow-new l i zero w = absurd (omega (arith, w .1, w .2))
+    grow-new l i (suc n) w =
+        ⊎-elim
+        (λ e.
+        grow-old (cond (carryTest old i) (id b i ∷ l) l) (i + 1) n
+        (first (subst (λ (j : ℕ). id b j ≡ z) (sym e) (w .3)) (subst (λ (j : ℕ). carryTest old j ≡ true) (sym e) (w .4))))
+        (λ h.
+        grow-new (cond (carryTest old i) (id b i ∷ l) l) (i + 1) n (w .0, omega arith, omega (arith, w .2), w .3, w .4))
+        (eq-or-lt-of-le (w .1))
+      where
+        first : id b i ≡ z → carryTest old i ≡ true → member z (cond (carryTest old i) (id b i ∷ l) l) ≡ true
+        first q e = rw e (subst (λ (y : ℕ). member y (id b i ∷ l) ≡ true) q (member-own (id b i) l))
+
+  module _ (g : Good b) (small : k < rightCount) where
+    once : (l : List ℕ) (z : ℕ) → (member z (again l) ≡ true)
+        ↔ ((member z l ≡ true) ⊎ ((x : ℕ) × (member x l ≡ true) × Carries b k x z))
+    unfolding Carries
+    once l z = (
+      (λ h.
+          ⊎-elim (λ m. inl m)
+          (λ w.
+          let p = both (member (key b (w .0)) l) _ (w .4) in
+          let of : Of b Membership (w .0) = (omega arith, omega (arith, w .2)) in
+          inr (
+            key b (w .0),
+            p .0,
+            subst (λ (y : ℕ). Carries b k (key b (w .0)) y) (w .3)
+                (net-at g Membership k small (at-self of) .0 (net-test b k (w .0) .0 (p .1))),
+          ))
+          (grown l z l 0 (size b Membership) h)),
+      (λ s.
+          ⊎-elim (λ m. grow-old l z l 0 (size b Membership) m)
+          (λ t.
+          let w = net-where g Membership k (t .2) in
+          grow-new l z l 0 (size b Membership) (
+            w .0,
+            omega arith,
+            omega (arith, w .1 .of .1),
+            w .1 .has-id,
+            and-true (subst (λ (x : ℕ). member x l ≡ true) (sym (w .1 .has-key)) (t .1)) (net-test b k (w .0) .1 (w .2)),
+          ))
+          s),
+    )
+
+    pub chain-test : (n u z : ℕ) → (member z (spread n u) ≡ true) ↔ Chain (Carries b k) n u z
+    chain-test zero u z = (
+      (λ m.
+          ⊎-elim (λ e. subst (λ (y : ℕ). Chain (Carries b k) 0 u y) (sym e) here)
+          (λ no. let q : _≡_ {A = ℕ} 0 1 = cc in absurd (omega arith)) (member-first z u [] m)),
+      (λ c. subst (λ (y : ℕ). member y (u ∷ []) ≡ true) (stays c) (member-own u [])),
+    )
+    chain-test (suc n) u z =
+        let step = once (spread n u) z in
+        let more = one-more n u z in (
+          (λ m.
+              more .1
+              (⊎-elim (λ s. inl (chain-test n u z .0 s)) (λ t. inr (t .0, chain-test n u (t .0) .0 (t .1), t .2)) (step .0 m))),
+          (λ c.
+              step .1
+              (⊎-elim (λ s. inl (chain-test n u z .1 s)) (λ t. inr (t .0, chain-test n u (t .0) .1 (t .1), t .2)) (more .0 c))),
+        )

@@ -1,0 +1,99 @@
+-- From the rights reached, the filters and the request to the answers.
+use Prim.Native.Nat.{ℕ, suc, _^_, _<_, _≤_}
+use mathlib.Core.Path.{_≡_, refl}
+use mathlib.Core.List.{List, []}
+use mathlib.Core.Logic.{_↔_}
+use native.Mathlib.Omega.{arith}
+use Rattle.index.specs.Letters.{rightCount, In, Mask}
+use Rattle.index.specs.Numbers.{First, Answers}
+use Rattle.index.specs.Block.{Sized, Good, IsName}
+use Rattle.index.specs.Calls.{blockNeeds}
+use Rattle.index.proofs.laws.Firsts.{all-hold, refuses, refused-first, passed-first}
+use Rattle.index.proofs.laws.block.Masks.{mask-map, mask-covers}
+use Rattle.rights.specs.Held.{Passes, Holds}
+use Rattle.rights.specs.work.Marks.{Granted}
+use Rattle.rights.specs.Questions.{askNeeds, questionNeeds, Limited, HoldsAll}
+
+-- A right is held where it is reached and passes the filters.
+pub holds : (b : List ℕ) (u o k : ℕ) → (Granted b u o k × Passes b o k) ↔ Holds b u o k
+unfolding Granted
+holds b u o k = (
+  (λ p. record { s = p .0 .0; g = p .0 .1; reached = p .0 .2; grant = p .0 .3; filters = p .1 }),
+  (λ h. ((h .s, h .g, h .reached, h .grant), h .filters)),
+)
+
+-- ---- the requirements
+
+pub positive : (m : ℕ) → (m ≡ 0 → ⊥) → 0 < m
+positive ℕ.zero ne = absurd (ne refl)
+positive (suc m) ne = omega arith
+
+-- All that a question needs.
+pub record Asked (b : List ℕ) (u o request : ℕ) : Type 0 where
+  pub sized : Sized b
+  pub good : Good b
+  pub user : IsName u
+  pub object : IsName o
+  pub some : 1 ≤ request
+  pub small : request < 2 ^ rightCount
+
+module _ (b : List ℕ) (u o request : ℕ) where
+  -- The tests of the block are passed, and then those of the question.
+  pub asked : Sized b → Good b → (n : ℕ) → n ≡ 0 → Answers (askNeeds u o request) n → Asked b u o request
+  asked sized good n zero a =
+      let all = all-hold (askNeeds u o request) n (omega arith) (omega arith) a in
+      record {
+        sized = sized;
+        good = good;
+        user = all .0 .0;
+        object = all .0 .1;
+        some = all .1 .0 .0;
+        small = omega (arith, all .1 .0 .1);
+      }
+
+  module _ {O : Type 0} (refusal : ℕ → O) (accepted : O → Type 0) where
+    pub refused : Sized b → Good b → (n : ℕ) → (n ≡ 0 → ⊥) → Answers (askNeeds u o request) n
+        → First refusal (questionNeeds b u o request) accepted (refusal n)
+    unfolding questionNeeds blockNeeds
+    refused sized good n some a =
+        passed-first refusal (blockNeeds b) (askNeeds u o request) accepted (refusal n) (sized, (good, tt))
+        (refuses refusal accepted (askNeeds u o request) some a)
+
+    -- 1 and 2 of the block.
+    pub refused-block : (n : ℕ) → (n ≡ 0 → ⊥) → Answers (blockNeeds b) n → First refusal (questionNeeds b u o request) accepted (refusal n)
+    unfolding questionNeeds
+    refused-block n some a = refused-first refusal (blockNeeds b) (askNeeds u o request) accepted n (omega (arith, some)) a
+
+    pub accepts : (out : O) → Asked b u o request → accepted out → First refusal (questionNeeds b u o request) accepted out
+    unfolding questionNeeds blockNeeds
+    accepts out all ok =
+        passed-first refusal (questionNeeds b u o request) [] accepted out
+        (all .sized, (all .good, ((all .user, all .object), ((all .some, omega (arith, all .small)), tt)))) ok
+
+  -- ---- the rights
+
+  -- The rights reached among those that the filters let through, limited to the request.
+  pub limited : {w r : ℕ} → Mask w (λ k. Passes b o k × In k request)
+      → Mask r (λ k. Granted b u o k × In k w) → Limited b u o request r
+  unfolding Limited
+  limited wanted reached =
+      mask-map reached (λ k. Holds b u o k × In k request)
+      (λ k h. (
+        (λ p. let q = wanted .1 k h .0 (p .1) in (holds b u o k .0 (p .0, q .0), q .1)),
+        (λ p. let q = holds b u o k .1 (p .0) in (q .0, wanted .1 k h .1 (q .1, p .1))),
+      ))
+
+  -- Every requested right passes the filters and is reached.
+  module _ (small : request < 2 ^ rightCount) where
+    pub filtered : {w : ℕ} → Mask w (λ k. Passes b o k × In k request) → HoldsAll b u o request → w ≡ request
+    unfolding HoldsAll
+    filtered wanted all = mask-covers request small wanted .1 (λ k h i. holds b u o k .1 (all k h i) .1)
+
+    pub covered : {w r : ℕ} → Mask w (λ k. Passes b o k × In k request) → w ≡ request → Mask r (λ k. Granted b u o k × In k request)
+        → (r ≡ request) ↔ HoldsAll b u o request
+    unfolding HoldsAll
+    covered wanted same reached = (
+      (λ e k h i.
+          holds b u o k .0 (mask-covers request small reached .0 e k h i, mask-covers request small wanted .0 same k h i)),
+      (λ all. mask-covers request small reached .1 (λ k h i. holds b u o k .1 (all k h i) .0)),
+    )

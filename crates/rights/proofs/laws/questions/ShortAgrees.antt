@@ -1,0 +1,83 @@
+-- The short answer agrees with the full one on every input.
+use Prim.Native.Nat.{ℕ, _<_}
+use mathlib.Core.Path.{_≡_, sym, ap, _∙_}
+use mathlib.Core.List.{List, [], _∷_}
+use mathlib.Core.Logic.{_⊎_, _↔_, inl, inr, ⊎-elim}
+use native.Mathlib.Omega.{arith}
+use Rattle.index.specs.Letters.{rightCount, In}
+use Rattle.index.specs.Numbers.{First}
+use Rattle.index.specs.Calls.{blockNeeds}
+use Rattle.index.proofs.laws.Firsts.{Positive}
+use Rattle.rights.specs.declared.Rights.{Rights}
+use Rattle.rights.specs.declared.Rights.the-variants as rights
+use Rattle.rights.specs.declared.Answer.{Answer}
+use Rattle.rights.specs.declared.Answer.the-variants as answer
+use Rattle.rights.specs.Questions.{questionNeeds, Limited, HoldsAll, Reports, unreported, Full, Short, Asks, AsksAll}
+
+-- Every requested right is in the mask.
+abbrev pub Covers : ℕ → ℕ → Type 0
+Covers mask request = (k : ℕ) → k < rightCount → In k request → In k mask
+
+-- Yes exactly where the full answer has every requested right, and refusals with the same number.
+abbrev pub AnswersAgree : ℕ → Rights → Answer → Type 0
+AnswersAgree request (rights.Held m i j) answer.Yes = Covers m request
+AnswersAgree request (rights.Held m i j) answer.No = Covers m request → ⊥
+AnswersAgree request (rights.Held m i j) (answer.Refused n) = ⊥
+AnswersAgree request (rights.Refused n) answer.Yes = ⊥
+AnswersAgree request (rights.Refused n) answer.No = ⊥
+AnswersAgree request (rights.Refused n) (answer.Refused m) = n ≡ m
+
+-- Two calls with the same requirements are refused with the same number, or both accepted.
+first-both : {O P : Type 0} (f : ℕ → O) (g : ℕ → P) (ts : List (ℕ × Type 0)) (A : O → Type 0) (B : P → Type 0) (a : O) (b : P)
+    → Positive ts → First f ts A a → First g ts B b → ((n : ℕ) × (0 < n) × (a ≡ f n) × (b ≡ g n)) ⊎ (A a × B b)
+first-both f g [] A B a b s p q = inr (p, q)
+first-both f g (t ∷ ts) A B a b s (inl p) (inl q) = inl (t .0, s .0, p .1, q .1)
+first-both f g (t ∷ ts) A B a b s (inl p) (inr q) = absurd (p .0 (q .0))
+first-both f g (t ∷ ts) A B a b s (inr p) (inl q) = absurd (q .0 (p .0))
+first-both f g (t ∷ ts) A B a b s (inr p) (inr q) = first-both f g ts A B a b (s .1) (p .1) (q .1)
+
+module _ (b : List ℕ) (u o request : ℕ) where
+  -- The two accepted outcomes.
+  abbrev BothAccepted : ℕ × ℕ × ℕ × ℕ → ℕ × ℕ → Type 0
+  BothAccepted a c = (a .0 ≡ 0) × (c .0 ≡ 0) × ((c .1 ≡ 1) ↔ Covers (a .1) request)
+
+  both : (a : ℕ × ℕ × ℕ × ℕ) (c : ℕ × ℕ) → Full b u o request a → Short b u o request c
+      → ((n : ℕ) × (0 < n) × (a ≡ unreported n) × (c ≡ (n, 0))) ⊎ BothAccepted a c
+  unfolding Full Short Limited HoldsAll questionNeeds blockNeeds
+  both a c p q =
+      ⊎-elim (λ r. inl r)
+      (λ r.
+      let full = r .0 .1 .1 in
+      let short = r .1 .2 in
+      inr (
+        r .0 .0,
+        r .1 .0,
+        (
+          (λ e k h i. full k h .1 (short .0 e k h i, i)),
+          (λ all. short .1 (λ k h i. full k h .0 (all k h i) .0)),
+        ),
+      ))
+      (first-both unreported (λ n. (n, 0)) (questionNeeds b u o request) (Reports b u o request)
+      (λ a. (a .0 ≡ 0) × (a .1 < 2) × ((a .1 ≡ 1) ↔ HoldsAll b u o request)) a c (omega arith) p q)
+
+  fst : {a c : ℕ × ℕ} → a ≡ c → a .0 ≡ c .0
+  fst e = ap (λ (p : ℕ × ℕ). p .0) e
+
+  number : {a c : ℕ × ℕ × ℕ × ℕ} → a ≡ c → a .0 ≡ c .0
+  number e = ap (λ (p : ℕ × ℕ × ℕ × ℕ). p .0) e
+
+  pub short-agrees : (r : Rights) (a : Answer) → Asks b u o request r → AsksAll b u o request a → AnswersAgree request r a
+  unfolding Asks AsksAll
+  short-agrees (rights.Held m i j) answer.Yes p q =
+      ⊎-elim (λ r. absurd (omega (arith, r .1, number (r .2)))) (λ r. r .2 .0 (omega arith)) (both (0, m, i, j) (0, 1) p q)
+  short-agrees (rights.Held m i j) answer.No p q =
+      ⊎-elim (λ r. absurd (omega (arith, r .1, number (r .2)))) (λ r all. omega (arith, r .2 .1 all)) (both (0, m, i, j) (0, 0) p q)
+  short-agrees (rights.Held m i j) (answer.Refused n) p q =
+      ⊎-elim (λ r. omega (arith, r .1, number (r .2))) (λ r. omega (arith, r .1, q .0)) (both (0, m, i, j) (n, 0) p (q .1))
+  short-agrees (rights.Refused n) answer.Yes p q =
+      ⊎-elim (λ r. omega (arith, r .1, fst (r .3))) (λ r. omega (arith, r .0, p .0)) (both (unreported n) (0, 1) (p .1) q)
+  short-agrees (rights.Refused n) answer.No p q =
+      ⊎-elim (λ r. omega (arith, r .1, fst (r .3))) (λ r. omega (arith, r .0, p .0)) (both (unreported n) (0, 0) (p .1) q)
+  short-agrees (rights.Refused n) (answer.Refused m) p q =
+      ⊎-elim (λ r. number (r .2) ∙ sym (fst (r .3))) (λ r. absurd (omega (arith, r .0, p .0)))
+      (both (unreported n) (m, 0) (p .1) (q .1))

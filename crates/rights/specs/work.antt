@@ -1,0 +1,4 @@
+-- What only proofs need.
+pub mod Marks
+pub mod Lookup
+pub mod Fronts
