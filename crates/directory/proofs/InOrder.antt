@@ -88,7 +88,7 @@ module _ (b d : List ℕ) (o : ℕ × ℕ × List ℕ × List ℕ) where
       ∷ (4, Each Named (previous m ++ new m))
       ∷ (5, Each Masked (previous m ++ new m))
       ∷ []))
-      (λ o. Carried b (changes m) b (o .0, o .2) × ((o .1 ≡ 0) × Own (o .2) (o .3))) o
+      (λ o. Carried b (changes (previous m) (new m)) b (o .0, o .2) × ((o .1 ≡ 0) × Own (o .2) (o .3))) o
   unfolding MessageBy KeptBy Message messageNeeds
   message-in-order m =
       kept-in-order {O = ℕ × ℕ × List ℕ × List ℕ} {R = ℕ × List ℕ} (λ o. (o .0, o .2)) (λ o. (o .1 ≡ 0) × Own (o .2) (o .3)) (λ n. (n, 0, b, d))
@@ -96,7 +96,7 @@ module _ (b d : List ℕ) (o : ℕ × ℕ × List ℕ × List ℕ) where
       (λ own n o e side.
       let same = as-it-came own (ap (λ (r : ℕ × List ℕ). r .1) e) (side .1) in
       λ i. (e i .0, side .0 i, e i .1, same i))
-      (λ own n o e. (λ i. (e i .0, e i .2), (λ i. e i .1, left own e))) (Carried b (changes m) b) o
+      (λ own n o e. (λ i. (e i .0, e i .2), (λ i. e i .1, left own e))) (Carried b (changes (previous m) (new m)) b) o
       ((3, WellFormed m) ∷ (4, Each Named (previous m ++ new m)) ∷ (5, Each Masked (previous m ++ new m)) ∷ [])
       (λ o. ((o .1 ≡ 0) × Message b m (o .0, o .2)) × Own (o .2) (o .3))
       (λ p. (p .0 .1, (p .0 .0, p .1)), λ p. ((p .1 .0, p .0), p .1 .1))

@@ -1,7 +1,7 @@
 -- 01, "The block". A block is the list of its bytes.
 use Prim.Native.Nat.{ℕ, suc, _+_, _-_, _*_, _/_, _%_, _^_, _<_, _≤_}
 use mathlib.Core.Path.{_≡_}
-use mathlib.Core.Bool.{cond, _&&_}
+use mathlib.Core.Bool.{false, cond, _&&_}
 use mathlib.Core.Logic.{_⊎_}
 use mathlib.Core.List.{List}
 use lib.Bits.{bitAnd, bitXor}
@@ -9,7 +9,7 @@ use lib.ListN.{length, getD}
 use lib.Dec.{eqb, ltb}
 use Rattle.index.specs.declared.Kind.{Kind}
 use Rattle.index.specs.declared.Kind.the-variants.{Membership, Permission, Filter}
-use Rattle.index.specs.Letters.{letterCount, rightCount, lettersOf}
+use Rattle.index.specs.Letters.{letterCount, rightCount, mayHave}
 
 -- "Names are numbers 0 to 1023."
 abbrev pub nameCount : ℕ
@@ -116,7 +116,7 @@ pub record Good (b : List ℕ) : Type 0 where
   -- "each record has a count above zero"
   pub counted : (i : ℕ) → i < records b → (k : ℕ) × (k < letterCount) × (0 < countAt b i k)
   -- "M and F records have zero in the four small-letter counts"
-  pub allowed : (kind : Kind) (i : ℕ) → Of b kind i → (k : ℕ) → lettersOf kind ≤ k → countAt b i k ≡ 0
+  pub allowed : (kind : Kind) (i : ℕ) → Of b kind i → (k : ℕ) → mayHave kind k ≡ false → countAt b i k ≡ 0
   -- "every byte from the end on is zero"
   pub tail : (j : ℕ) → place (records b) ≤ j → getD b j 0 ≡ 0
 

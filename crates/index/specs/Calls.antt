@@ -12,8 +12,8 @@ use Rattle.index.specs.declared.Took.the-variants as took
 use Rattle.index.specs.Letters.{Mask}
 use Rattle.index.specs.Numbers.{First, Each}
 use Rattle.index.specs.Block.{IsName, Sized, key, id, Has, Good, records, room, NetAt}
-use Rattle.index.specs.Message.{IsKind, kindOf, previous, new, WellFormed, Named, Masked, changes, Carried, kindIn, halfIn, changesIn}
-use Rattle.index.specs.Wide.{WideFormed, widePrevious, wideNew, wideChanges}
+use Rattle.index.specs.Message.{IsKind, kindOf, previous, new, WellFormed, Named, Masked, changes, Carried, packedKind, packedHalf, packedChanges}
+use Rattle.index.specs.Wide.{WideFormed, widePrevious, wideNew}
 use Rattle.index.specs.Text.{Entry, textOf, setOf, Writes, Replaced, Place}
 
 -- 1: "block length not 16 to 40,976"; 2: "block not good".
@@ -38,7 +38,7 @@ messageNeeds b m =
     ++ ((3, WellFormed m) ∷ (4, Each Named (previous m ++ new m)) ∷ (5, Each Masked (previous m ++ new m)) ∷ [])
 
 unfoldable pub Message : List ℕ → List ℕ → (ℕ × List ℕ) → Type 0
-Message b m o = First (λ n. (n, b)) (messageNeeds b m) (Carried b (changes m) b) o
+Message b m o = First (λ n. (n, b)) (messageNeeds b m) (Carried b (changes (previous m) (new m)) b) o
 
 -- wide: the number, and the block then. 3, 4 and 5 as for a message, then 6, 7 and 8 of its steps, "in pair order".
 unfoldable pub wideNeeds : List ℕ → List ℕ → List (ℕ × Type 0)
@@ -49,18 +49,18 @@ wideNeeds b m =
     ∷ (5, Each Masked (widePrevious m ++ wideNew m)) ∷ [])
 
 unfoldable pub Wide : List ℕ → List ℕ → (ℕ × List ℕ) → Type 0
-Wide b m o = First (λ n. (n, b)) (wideNeeds b m) (Carried b (wideChanges m) b) o
+Wide b m o = First (λ n. (n, b)) (wideNeeds b m) (Carried b (changes (widePrevious m) (wideNew m)) b) o
 
 -- carry_out: the number, and the block then. 3, 4 and 5 over all changes of the list, then 6, 7 and 8 of its steps.
 unfoldable pub listNeeds : List ℕ → List ℕ → List (ℕ × Type 0)
 listNeeds b cs =
     blockNeeds b
-    ++ ((3, Each (λ n. IsKind (kindIn n)) cs)
-    ∷ (4, Each (λ n. Named (halfIn n)) cs)
-    ∷ (5, Each (λ n. Masked (halfIn n)) cs) ∷ [])
+    ++ ((3, Each (λ n. IsKind (packedKind n)) cs)
+    ∷ (4, Each (λ n. Named (packedHalf n)) cs)
+    ∷ (5, Each (λ n. Masked (packedHalf n)) cs) ∷ [])
 
 unfoldable pub CarriesOut : List ℕ → List ℕ → (ℕ × List ℕ) → Type 0
-CarriesOut b cs o = First (λ n. (n, b)) (listNeeds b cs) (Carried b (changesIn cs) b) o
+CarriesOut b cs o = First (λ n. (n, b)) (listNeeds b cs) (Carried b (packedChanges cs) b) o
 
 -- What write and read need first. 3: "kind not 1 to 3"; 4: "a name above 1023, given by the caller".
 unfoldable pub setNeeds : List ℕ → ℕ → ℕ → List (ℕ × Type 0)

@@ -2,8 +2,10 @@
 -- four rights are the four capital letters.
 use Prim.Native.Nat.{ℕ, _/_, _%_, _^_, _<_}
 use mathlib.Core.Path.{_≡_}
+use mathlib.Core.Bool.{Bool}
 use mathlib.Core.List.{List, [], _∷_}
 use mathlib.Core.Logic.{_↔_}
+use lib.Dec.{ltb}
 use Rattle.index.specs.declared.Kind.{Kind}
 use Rattle.index.specs.declared.Kind.the-variants.{Membership, Permission, Filter}
 
@@ -28,11 +30,11 @@ letters = 77 ∷ 82 ∷ 85 ∷ 80 ∷ 109 ∷ 114 ∷ 117 ∷ 112 ∷ []
 abbrev pub In : ℕ → ℕ → Type 0
 In k mask = mask / 2 ^ k % 2 ≡ 1
 
--- "M and F records have zero in the four small-letter counts": a record of the kind may have the letters below this one.
-unfoldable pub lettersOf : Kind → ℕ
-lettersOf Membership = rightCount
-lettersOf Permission = letterCount
-lettersOf Filter = rightCount
+-- "M and F records have zero in the four small-letter counts": a record of the kind may have letter k.
+unfoldable pub mayHave : Kind → ℕ → Bool
+mayHave Membership k = ltb k rightCount
+mayHave Permission k = ltb k letterCount
+mayHave Filter k = ltb k rightCount
 
 -- r is the mask of the rights that P holds of.
 abbrev pub Mask : ℕ → (ℕ → Type 0) → Type 0

@@ -1,14 +1,14 @@
 -- 01, "The message", and its steps. A message is the list of its bytes.
 use Prim.Native.Nat.{ℕ, _+_, _*_, _<_, _≤_, _/_, _%_, _^_}
 use mathlib.Core.Path.{_≡_}
-use mathlib.Core.Bool.{Bool, cond, _&&_}
+use mathlib.Core.Bool.{Bool, true, false, cond, _&&_}
 use mathlib.Core.List.{List, [], _∷_, _++_, map}
 use mathlib.Core.Logic.{_⊎_}
 use lib.ListN.{length, getD}
 use lib.Dec.{eqb}
 use Rattle.index.specs.declared.Kind.{Kind}
 use Rattle.index.specs.declared.Kind.the-variants.{Membership, Permission, Filter}
-use Rattle.index.specs.Letters.{letterCount, lettersOf, In}
+use Rattle.index.specs.Letters.{letterCount, mayHave, In}
 use Rattle.index.specs.Numbers.{First}
 use Rattle.index.specs.Block.{greatestCount, IsName, number, Good, count, records, room}
 
@@ -31,38 +31,65 @@ pub record Half : Type 0 where
   pub id : ℕ
   pub mask : ℕ
 
+-- ---- its bytes
+
 -- "12 bytes: kind (1 M, 2 P, 3 F), flags (1 previous present, 2 new present, 3 both), then the previous and the new half, 5
--- bytes each: key (2), id (2), mask (1)."
+-- bytes each: key (2), id (2), mask (1)." Half 0 is the previous one, half 1 the new one.
+abbrev pub messageLength : ℕ
+messageLength = 12
+
+abbrev pub halfCount : ℕ
+halfCount = 2
+
+abbrev pub halfLength : ℕ
+halfLength = 5
+
+unfoldable pub kindIn : List ℕ → ℕ
+kindIn m = getD m 0 0
+
 unfoldable pub flags : List ℕ → ℕ
 flags m = getD m 1 0
 
+-- "flags (1 previous present, 2 new present, 3 both)": half h is present.
+unfoldable pub present : List ℕ → ℕ → Bool
+present m h = eqb (flags m / 2 ^ h % 2) 1
+
+-- Where half h begins.
+abbrev pub halfPlace : ℕ → ℕ
+halfPlace h = 2 + halfLength * h
+
 unfoldable pub halfAt : List ℕ → ℕ → Half
-halfAt m i = record { kind = kindOf (getD m 0 0); key = number m i; id = number m (i + 2); mask = getD m (i + 4) 0 }
+halfAt m h =
+    let i = halfPlace h in
+    record { kind = kindOf (kindIn m); key = number m i; id = number m (i + 2); mask = getD m (i + 4) 0 }
 
--- "flags (1 previous present, 2 new present, 3 both)": the previous half or none, the new half or none.
-unfoldable pub previous : List ℕ → List Half
-previous m = cond (eqb (flags m % 2) 1) (halfAt m 2 ∷ []) []
+-- Half h, if it is present, or none.
+unfoldable pub halves : List ℕ → ℕ → List Half
+halves m h = cond (present m h) (halfAt m h ∷ []) []
 
-unfoldable pub new : List ℕ → List Half
-new m = cond (eqb (flags m / 2 % 2) 1) (halfAt m 7 ∷ []) []
+abbrev pub previous : List ℕ → List Half
+previous m = halves m 0
+
+abbrev pub new : List ℕ → List Half
+new m = halves m 1
 
 -- "An absent half is five zero bytes."
 unfoldable pub Blank : List ℕ → ℕ → Type 0
-Blank m i = (j : ℕ) → i ≤ j → j < i + 5 → getD m j 0 ≡ 0
+Blank m h = (j : ℕ) → j < halfLength → getD m (halfPlace h + j) 0 ≡ 0
 
 pub record WellFormed (m : List ℕ) : Type 0 where
-  pub twelve : length m ≡ 12
-  pub kind : IsKind (getD m 0 0)
+  pub twelve : length m ≡ messageLength
+  pub kind : IsKind (kindIn m)
   pub some-half : (1 ≤ flags m) × (flags m ≤ 3)
-  pub no-previous : flags m ≡ 2 → Blank m 2
-  pub no-new : flags m ≡ 1 → Blank m 7
+  pub absent : (h : ℕ) → h < halfCount → present m h ≡ false → Blank m h
 
--- "a name above 1023"; "mask 0, or above 15 for M or F"
+-- "a name above 1023"
 unfoldable pub Named : Half → Type 0
 Named h = IsName (h .key) × IsName (h .id)
 
+-- "mask 0, or above 15 for M or F": the mask is not 0, and the kind may have each of its letters.
 unfoldable pub Masked : Half → Type 0
-Masked h = (0 < h .mask) × (h .mask < 2 ^ lettersOf (h .kind))
+Masked h = (0 < h .mask) × ((k : ℕ) → In k (h .mask) → mayHave (h .kind) k ≡ true)
 
 -- ---- the steps
 
@@ -71,11 +98,8 @@ pub data Change : Type 0 where
   add : Half → Change
 
 -- "first take away the previous half", "then add the new half"
-abbrev pub steps : List Half → List Half → List Change
-steps hs gs = map take hs ++ map add gs
-
-unfoldable pub changes : List ℕ → List Change
-changes m = steps (previous m) (new m)
+unfoldable pub changes : List Half → List Half → List Change
+changes previous new = map take previous ++ map add new
 
 -- "each letter in its mask": 1 where the half has letter k of this record, else 0.
 unfoldable pub moves : Half → Kind → ℕ → ℕ → ℕ → ℕ
@@ -125,20 +149,20 @@ Carried b₀ (c ∷ cs) b o =
 unfoldable pub packed : Bool → ℕ → ℕ → ℕ → ℕ → ℕ
 packed adds kind x y mask = cond adds 1 0 + 2 * (mask + 65536 * (y + 65536 * (x + 65536 * kind)))
 
-unfoldable pub kindIn : ℕ → ℕ
-kindIn n = n / 2 / 65536 / 65536 / 65536
+unfoldable pub packedKind : ℕ → ℕ
+packedKind n = n / 2 / 65536 / 65536 / 65536
 
-unfoldable pub halfIn : ℕ → Half
-halfIn n =
+unfoldable pub packedHalf : ℕ → Half
+packedHalf n =
     record {
-      kind = kindOf (kindIn n);
+      kind = kindOf (packedKind n);
       key = n / 2 / 65536 / 65536 % 65536;
       id = n / 2 / 65536 % 65536;
       mask = n / 2 % 65536;
     }
 
-unfoldable pub changeIn : ℕ → Change
-changeIn n = cond (eqb (n % 2) 0) (take (halfIn n)) (add (halfIn n))
+unfoldable pub packedChange : ℕ → Change
+packedChange n = cond (eqb (n % 2) 0) (take (packedHalf n)) (add (packedHalf n))
 
-abbrev pub changesIn : List ℕ → List Change
-changesIn cs = map changeIn cs
+abbrev pub packedChanges : List ℕ → List Change
+packedChanges cs = map packedChange cs

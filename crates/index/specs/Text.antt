@@ -2,12 +2,12 @@
 -- bytes.
 use Prim.Native.Nat.{ℕ, suc, _+_, _/_, _%_, _<_, _≤_}
 use mathlib.Core.Path.{_≡_}
-use mathlib.Core.Bool.{cond}
+use mathlib.Core.Bool.{false, cond}
 use mathlib.Core.List.{List, [], _∷_, _++_}
 use lib.ListN.{length, getD, take}
 use lib.Dec.{eqb, ltb}
 use Rattle.index.specs.declared.Kind.{Kind}
-use Rattle.index.specs.Letters.{letterCount, letters, lettersOf}
+use Rattle.index.specs.Letters.{letterCount, letters, mayHave}
 use Rattle.index.specs.Block.{greatestCount, IsName, size, from, key, id, countAt, Good, count}
 
 -- One record of a set: its id, and its counts in letter order.
@@ -80,7 +80,7 @@ pub record IsEntry (kind : Kind) (e : Entry) : Type 0 where
   pub eight : length (e .counts) ≡ letterCount
   pub fits : (k : ℕ) → getD (e .counts) k 0 ≤ greatestCount
   pub counted : (k : ℕ) × (0 < getD (e .counts) k 0)
-  pub allowed : (k : ℕ) → lettersOf kind ≤ k → getD (e .counts) k 0 ≡ 0
+  pub allowed : (k : ℕ) → mayHave kind k ≡ false → getD (e .counts) k 0 ≡ 0
 
 -- "ids rising"
 pub data IsSet : Kind → List Entry → Type 0 where

@@ -1,26 +1,25 @@
 -- 02, M-100: a wide message, which stands for every pair of a key and an id. A message is the list of its bytes.
 use Prim.Native.Nat.{ℕ, zero, suc, _+_, _*_, _<_, _≤_}
 use mathlib.Core.Path.{_≡_}
+use mathlib.Core.Bool.{true, false}
 use mathlib.Core.List.{List, [], _∷_, _++_, map}
 use lib.ListN.{length, getD}
 use Rattle.index.specs.declared.Kind.{Kind}
 use Rattle.index.specs.Numbers.{Each}
 use Rattle.index.specs.Block.{number}
-use Rattle.index.specs.Message.{IsKind, kindOf, flags, Half, Change, steps}
+use Rattle.index.specs.Message.{IsKind, kindOf, Half, halfCount, kindIn, flags, present}
 
 -- "Its 16-byte header has kind, flags, four list lengths (previous keys, previous ids, new keys, new ids), two masks, one
--- byte each, then four 16-bit offsets from its first byte". The lists are numbered 0 to 3.
+-- byte each, then four 16-bit offsets from its first byte". The lists are
+-- numbered 0 to 3: those of half h are 2 h, its keys, and 2 h + 1, its ids.
 unfoldable pub listLength : List ℕ → ℕ → ℕ
 listLength m q = getD m (2 + q) 0
 
 unfoldable pub listStart : List ℕ → ℕ → ℕ
 listStart m q = number m (8 + 2 * q)
 
-abbrev pub previousMask : List ℕ → ℕ
-previousMask m = getD m 6 0
-
-abbrev pub newMask : List ℕ → ℕ
-newMask m = getD m 7 0
+unfoldable pub maskIn : List ℕ → ℕ → ℕ
+maskIn m h = getD m (6 + h) 0
 
 -- "the lists of 16-bit names": n names from byte i on.
 unfoldable pub namesFrom : List ℕ → ℕ → ℕ → List ℕ
@@ -44,29 +43,28 @@ Rising (x ∷ xs) = Each (λ y. x < y) xs × Rising xs
 abbrev pub ListGood : List ℕ → ℕ → Type 0
 ListGood m q = (1 ≤ listLength m q) × (listLength m q ≤ 8) × Rising (names m q)
 
--- "An absent half has lengths and mask zero."
 pub record WideFormed (m : List ℕ) : Type 0 where
   pub header : 16 ≤ length m
-  pub kind : IsKind (getD m 0 0)
+  pub kind : IsKind (kindIn m)
   pub some-half : (1 ≤ flags m) × (flags m ≤ 3)
   pub starts : (q : ℕ) → q < 4 → listStart m q ≡ startOf m q
   pub ends : length m ≡ startOf m 4
-  pub no-previous : flags m ≡ 2 → (listLength m 0 ≡ 0) × (listLength m 1 ≡ 0) × (previousMask m ≡ 0)
-  pub no-new : flags m ≡ 1 → (listLength m 2 ≡ 0) × (listLength m 3 ≡ 0) × (newMask m ≡ 0)
-  pub previous : (flags m ≡ 2 → ⊥) → ListGood m 0 × ListGood m 1
-  pub new : (flags m ≡ 1 → ⊥) → ListGood m 2 × ListGood m 3
+  -- "An absent half has lengths and mask zero."
+  pub absent : (h : ℕ) → h < halfCount → present m h ≡ false
+      → (listLength m (2 * h) ≡ 0) × (listLength m (2 * h + 1) ≡ 0) × (maskIn m h ≡ 0)
+  pub lists : (h : ℕ) → h < halfCount → present m h ≡ true → ListGood m (2 * h) × ListGood m (2 * h + 1)
 
 -- "stands for every pair", "pairs by key then id"
 unfoldable pub pairs : Kind → ℕ → List ℕ → List ℕ → List Half
 pairs kind mask [] ys = []
 pairs kind mask (x ∷ xs) ys = map (λ y. record { kind = kind; key = x; id = y; mask = mask }) ys ++ pairs kind mask xs ys
 
-unfoldable pub widePrevious : List ℕ → List Half
-widePrevious m = pairs (kindOf (getD m 0 0)) (previousMask m) (names m 0) (names m 1)
+-- Half h, pair by pair. "All of the previous half is taken away, then all of the new added".
+unfoldable pub wideHalves : List ℕ → ℕ → List Half
+wideHalves m h = pairs (kindOf (kindIn m)) (maskIn m h) (names m (2 * h)) (names m (2 * h + 1))
 
-unfoldable pub wideNew : List ℕ → List Half
-wideNew m = pairs (kindOf (getD m 0 0)) (newMask m) (names m 2) (names m 3)
+abbrev pub widePrevious : List ℕ → List Half
+widePrevious m = wideHalves m 0
 
--- "All of the previous half is taken away, then all of the new added"
-unfoldable pub wideChanges : List ℕ → List Change
-wideChanges m = steps (widePrevious m) (wideNew m)
+abbrev pub wideNew : List ℕ → List Half
+wideNew m = wideHalves m 1

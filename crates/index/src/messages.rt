@@ -3,6 +3,7 @@
 pub(crate) mod carry;
 pub(crate) mod counts;
 pub(crate) mod edits;
+pub(crate) mod halves;
 pub(crate) mod lists;
 pub(crate) mod plain;
 pub(crate) mod run;

@@ -7,7 +7,7 @@ use native.Mathlib.Decide.{ℕ-discrete}
 use native.Mathlib.Omega.{arith}
 use lib.ListN.{length}
 use Rattle.index.specs.declared.Kind.the-variants.{Permission}
-use Rattle.index.specs.Letters.{letterCount, lettersOf}
+use Rattle.index.specs.Letters.{letterCount, mayHave}
 use Rattle.index.specs.Numbers.{First}
 use Rattle.index.specs.Block.{number, countAt, count, key, id, Of, Sized, Good}
 use Rattle.index.specs.Calls.{blockNeeds, Message, WritesSet, ReadsSet, ReadAnswers}
@@ -135,11 +135,11 @@ not-made b fine = inr (fine .0, inr (fine .1, inl ((λ l. omega arith), refl)))
 -- ---- of the block of 36 bytes, and of the one with a record in it
 
 pub fine-nothing : Sized nothing × Good nothing
-unfolding Sized number countAt lettersOf
+unfolding Sized number countAt mayHave
 fine-nothing = ((omega arith, omega arith), good-test nothing refl)
 
 pub fine-one : Sized (reads 1) × Good (reads 1)
-unfolding Sized number countAt lettersOf
+unfolding Sized number countAt mayHave
 fine-one = ((omega arith, omega arith), good-test (reads 1) refl)
 
 -- The P record with the key 9 is below 10: where it is, the records from 10 on begin a record later.

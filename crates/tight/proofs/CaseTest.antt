@@ -5,7 +5,7 @@ use mathlib.Core.Bool.{true}
 use mathlib.Core.List.{List, [], _∷_}
 use lib.ListN.{length}
 use Rattle.index.specs.Numbers.{Each}
-use Rattle.index.specs.Message.{kindOf, changes}
+use Rattle.index.specs.Message.{kindOf, previous, new, changes}
 use Rattle.index.specs.Calls.{Message}
 use Rattle.index.specs.Text.{textOf, setOf}
 use Rattle.index.proofs.laws.message.MessageTest.{messageTest, message-test, lastOf}
@@ -26,7 +26,7 @@ Test Case.empty = Unit {0}
 Test (Case.accepted b m b′) = (ds : List (List ℕ)) × (messageTest b m ds ≡ true) × (lastOf b ds ≡ b′)
 Test (Case.refused b m n) =
     (b₀ : List ℕ) × (ds : List (List ℕ)) × (messageTest b₀ m ds ≡ true) × (blockTest b ≡ true)
-    × (changeTest (changes m) b n ≡ true)
+    × (changeTest (changes (previous m) (new m)) b n ≡ true)
 
 -- Each test means what its case says.
 means : (c : Case) → Test c → Shows c

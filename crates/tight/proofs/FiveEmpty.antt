@@ -6,9 +6,9 @@ use native.Mathlib.Omega.{arith}
 use lib.ListN.{length, getD, replicate, length-replicate, getD-replicate}
 use Rattle.index.specs.declared.Kind.{Kind}
 use Rattle.index.specs.declared.Kind.the-variants.{Membership, Permission}
-use Rattle.index.specs.Letters.{lettersOf}
+use Rattle.index.specs.Letters.{mayHave}
 use Rattle.index.specs.Block.{number, Sized, Good, countAt, count}
-use Rattle.index.specs.Message.{IsKind, kindOf, kindNumber, flags, halfAt, previous, new, moves}
+use Rattle.index.specs.Message.{IsKind, kindOf, kindNumber, kindIn, flags, present, halfAt, halves, moves}
 use Rattle.index.specs.Calls.{blockNeeds, Makes, ReadsSet}
 use Rattle.index.specs.History.{left, others, after, movesOf, tally}
 use Rattle.index.proofs.laws.Firsts.{first-passed, first-sure}
@@ -148,7 +148,7 @@ module _ (p : Program) (meets : Meets p) where
   -- "One whose messages change nothing, and one that works at the first message and then only says accepted: demand 2's
   -- steps, message by message." A byte of the header, of the count of R, or of the text tells the two lists apart.
   pub not-idle : ChangesNothing p → ⊥
-  unfolding Sized number countAt lettersOf IsKind kindOf
+  unfolding Sized number countAt mayHave IsKind kindOf
   not-idle (ChangesNothing.makes keeps) =
       let blank = zeros (length nothing) in
       let same : nothing ≡ blank = rw (does.makes p meets (made blank refl)) at (keeps blank) in
@@ -233,7 +233,7 @@ module _ (p : Program) (meets : Meets p) where
 -- The mill's own fault is of that kind: a program that takes two appointments in and keeps at most 1 for any.
 pub one-for-any : (p : Program) → p .make nothing .0 ≡ 0 → ((b : List ℕ) → p .message b give .0 ≡ 0)
     → ((b m : List ℕ) (kind : Kind) (x y k : ℕ) → count (p .message b m .1) kind x y k ≤ 1) → MakesUpCounts p
-unfolding flags halfAt previous new kindOf kindNumber number left others after moves movesOf tally
+unfolding kindIn flags present halfAt halves kindOf kindNumber number left others after moves movesOf tally
 one-for-any p m a few =
     let b = p .make nothing .1 in
     let c = p .message b give .1 in

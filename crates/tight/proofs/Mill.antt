@@ -6,9 +6,9 @@ use mathlib.Core.Logic.{inr}
 use lib.ListN.{length}
 use native.Mathlib.Omega.{arith}
 use Rattle.index.specs.declared.Kind.the-variants.{Permission}
-use Rattle.index.specs.Letters.{In, lettersOf}
+use Rattle.index.specs.Letters.{In, mayHave}
 use Rattle.index.specs.Block.{number, Sized, countAt, count}
-use Rattle.index.specs.Message.{kindOf, kindNumber, flags, halfAt, previous, new, moves}
+use Rattle.index.specs.Message.{kindOf, kindNumber, kindIn, flags, present, halfAt, halves, previous, moves}
 use Rattle.index.specs.Calls.{blockNeeds, Makes, makeNeeds, Message}
 use Rattle.index.specs.History.{Sent, Accepted, Labelled, Statement, left, others, after, History, movesOf, tally}
 use Rattle.index.specs.History.Sent.{plain}
@@ -28,7 +28,7 @@ use Rattle.tight.proofs.Demand3.{first-half, second-half}
 
 -- "It makes an empty index block": what make leaves of any block of that length.
 pub made : (b : List ℕ) → length b ≡ length nothing → Makes b (0, nothing)
-unfolding Makes makeNeeds Sized number countAt lettersOf
+unfolding Makes makeNeeds Sized number countAt mayHave
 made b e = inr (omega arith, (refl, good-test nothing refl, sym e, refl))
 
 -- A message, with the label of the appointment that it speaks for.
@@ -96,7 +96,7 @@ still-answered p meets = rw (runs p meets (give ∷ give ∷ withdraw ∷ []) on
 -- In every order in which the four messages are accepted, the block is empty again.
 pub both-gone : (ms : List Sent) (b : List ℕ) → List·Permᴰ ms (plain give ∷ plain give ∷ plain withdraw ∷ plain withdraw ∷ []) → Accepted nothing ms b
     → b ≡ nothing
-unfolding number countAt lettersOf
+unfolding number countAt mayHave
 both-gone ms b p h = first-half nothing b nothing ms _ (good-test nothing refl) p h both-ended
 
 -- ---- the same as histories, with a label for each appointment
@@ -110,24 +110,24 @@ abbrev both-stand : List Statement
 both-stand = after (by 2 give) (after (by 1 give) [])
 
 ended : (i j : ℕ) → previous withdraw ≡ left i both-stand → previous withdraw ≡ left j (after (by i withdraw) both-stand) → Ended i j
-unfolding flags halfAt previous new kindOf number left others after
+unfolding kindIn flags present halfAt halves kindOf number left others after
 ended i j p q =
     (_, accepted first-given refl (accepted second-given refl (accepted one-withdrawn p (accepted both-withdrawn q History.nothing))))
 
 -- Whichever ends first, the block is empty again.
 pub either-first : Ended 1 2 × Ended 2 1
-unfolding flags halfAt previous new kindOf number left others after
+unfolding kindIn flags present halfAt halves kindOf number left others after
 either-first = (ended 1 2 refl refl, ended 2 1 refl refl)
 
 -- Demand 3 by the numbers: the count is 1 when one stands, and 2 when both do.
 pub count-of-one : count (reads 1) Permission 9 1 1 ≡ 1
-unfolding flags halfAt previous new kindOf kindNumber number left others after moves movesOf tally
+unfolding kindIn flags present halfAt halves kindOf kindNumber number left others after moves movesOf tally
 count-of-one =
     second-half nothing nothing (reads 1) (by 1 give ∷ []) _ (made nothing refl) (accepted first-given refl History.nothing)
     Permission 9 1 1 (omega arith)
 
 pub count-of-two : count (reads 2) Permission 9 1 1 ≡ 2
-unfolding flags halfAt previous new kindOf kindNumber number left others after moves movesOf tally
+unfolding kindIn flags present halfAt halves kindOf kindNumber number left others after moves movesOf tally
 count-of-two =
     second-half nothing nothing (reads 2) (by 1 give ∷ by 2 give ∷ []) _ (made nothing refl)
     (accepted first-given refl (accepted second-given refl History.nothing)) Permission 9 1 1 (omega arith)

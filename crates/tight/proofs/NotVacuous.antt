@@ -6,10 +6,10 @@ use mathlib.Core.Logic.{inl, inr}
 use native.Mathlib.Omega.{arith}
 use lib.ListN.{replicate, length-replicate}
 use Rattle.index.specs.declared.Kind.the-variants.{Permission}
-use Rattle.index.specs.Letters.{letters, lettersOf}
+use Rattle.index.specs.Letters.{letters, mayHave}
 use Rattle.index.specs.Numbers.{Answers, Each}
 use Rattle.index.specs.Block.{number, countAt, countFrom, count, room, Sized, nameCount, Good}
-use Rattle.index.specs.Message.{IsKind, kindOf, flags, halfAt, previous, new, changes, ownCount, WellFormed, Named, Masked, Carried, packed, kindIn, halfIn, changeIn, changesIn}
+use Rattle.index.specs.Message.{IsKind, kindOf, kindIn, flags, present, halfAt, halves, previous, new, changes, ownCount, WellFormed, Named, Masked, Carried, packed, packedKind, packedHalf, packedChange, packedChanges}
 use Rattle.index.specs.Text.{Writes, digitsOf, decimal, pieceOf, piecesOf, entryText, textOf, countsAt, setFrom, setOf}
 use Rattle.index.specs.work.Reading.{digit, reaches, readDigits, readNumber, readCount, readLetter, readCounts, readMark, readRecord, readMore, readRecords, parse}
 use Rattle.index.specs.Calls.{blockNeeds, makeNeeds, messageNeeds, setNeeds, writeNeeds, Makes, Message, WritesSet, ReadsSet, listNeeds, CarriesOut}
@@ -26,7 +26,9 @@ use Rattle.tight.proofs.Starred.{_and_, texts-right, limits-right}
 use Rattle.tight.proofs.RefusedTest.{refused-test, changeTest, change-test}
 use Rattle.tight.proofs.Mill.{made, first-given, both-withdrawn, held-by-one, no-to-all}
 use mathlib.Core.Bool.{Bool, true, false}
+use Rattle.index.proofs.laws.message.Halves.{each-half, differ}
 use Rattle.index.proofs.laws.message.ListTests.{ownNeeds}
+use Rattle.index.proofs.laws.message.MessageTest.{letters-test}
 use Rattle.tight.proofs.BlockTest.{blockTest, block-test}
 use Rattle.tight.proofs.ByDirectory.{message-lent, read-lent, write-lent, questions-lent, not-lent, made-directory, not-made, fine-nothing}
 
@@ -81,7 +83,7 @@ no-header =
 -- ---- what each call is given, on the block of 36 bytes
 
 past-block : (us : List (ℕ × Type 0)) (r : ℕ) → Answers us r → Answers (blockNeeds nothing ++ us) r
-unfolding blockNeeds Sized number countAt lettersOf
+unfolding blockNeeds Sized number countAt mayHave
 past-block us r a = inr ((omega arith, omega arith), inr (good-test nothing refl, a))
 
 -- Kind 0, and key nameCount.
@@ -113,24 +115,23 @@ no-message = message-gives nothing 3 (omega arith) [] (past-block _ 3 (inl ((λ 
 
 -- A message with both halves has the form; one whose new half has the id nameCount, and one whose new half has the mask 0.
 both-halves : (x y mask : ℕ) → WellFormed (moving 2 (halfBytes 9 1 2) (halfBytes x y mask))
-unfolding IsKind flags
+unfolding IsKind kindIn flags present
 both-halves x y mask =
     record {
       twelve = refl;
       kind = (omega arith, omega arith);
       some-half = (omega arith, omega arith);
-      no-previous = λ e. absurd (omega arith);
-      no-new = λ e. absurd (omega arith);
+      absent = each-half _ (λ e. absurd (differ e)) (λ e. absurd (differ e));
     }
 
 no-name : MessageGives 4
-unfolding messageNeeds Named flags halfAt previous new kindOf number
+unfolding messageNeeds Named kindIn flags present halfAt halves kindOf number
 no-name =
     message-gives nothing 4 (omega arith) (moving 2 (halfBytes 9 1 2) (halfBytes 9 nameCount 2))
     (past-block _ 4 (inr (both-halves 9 nameCount 2, inl ((λ n. omega (arith, n .1 .0 .1)), refl))))
 
 no-mask : MessageGives 5
-unfolding messageNeeds Named Masked flags halfAt previous new kindOf number
+unfolding messageNeeds Named Masked kindIn flags present halfAt halves kindOf number
 no-mask =
     message-gives nothing 5 (omega arith) (moving 2 (halfBytes 9 1 2) (halfBytes 9 1 0))
     (past-block _ 5
@@ -141,7 +142,7 @@ no-mask =
 
 -- A withdrawal where nothing stands.
 none-stands : Message nothing withdraw (6, nothing)
-unfolding number countAt countFrom count lettersOf kindOf flags halfAt previous new changes ownCount
+unfolding number countAt countFrom count mayHave kindOf kindIn flags present halfAt halves changes ownCount
 none-stands = refused-test (reads 1) nothing nothing withdraw 6 both-withdrawn refl refl
 
 -- ---- a list of one change: R for the id 1 on a key, given or withdrawn
@@ -151,24 +152,24 @@ change adds kind x mask = packed adds kind x 1 mask ∷ []
 
 -- Kind 0, key nameCount and mask 0.
 list-no-kind : ListGives 3
-unfolding listNeeds IsKind kindIn packed
+unfolding listNeeds IsKind packedKind packed
 list-no-kind = list-gives nothing 3 (omega arith) (change true 0 9 2) (past-block _ 3 (inl ((λ k. omega (arith, k .0 .0)), refl)))
 
 list-no-name : ListGives 4
-unfolding listNeeds IsKind kindIn halfIn packed Named
+unfolding listNeeds IsKind packedKind packedHalf packed Named
 list-no-name =
     list-gives nothing 4 (omega arith) (change true 2 nameCount 2)
     (past-block _ 4 (inr (((omega arith, omega arith), tt), inl ((λ n. omega (arith, n .0 .0)), refl))))
 
 list-no-mask : ListGives 5
-unfolding listNeeds IsKind kindIn halfIn packed Named Masked
+unfolding listNeeds IsKind packedKind packedHalf packed Named Masked
 list-no-mask =
     list-gives nothing 5 (omega arith) (change true 2 9 0)
     (past-block _ 5
     (inr (((omega arith, omega arith), tt), inr (((omega arith, omega arith), tt), inl ((λ n. omega (arith, n .0 .0)), refl)))))
 
 -- Where the tests are passed, the change decides.
-list-decides : (b cs : List ℕ) (o : ℕ × List ℕ) → Sized b × Good b → All (ownNeeds cs) → Carried b (changesIn cs) b o → CarriesOut b cs o
+list-decides : (b cs : List ℕ) (o : ℕ × List ℕ) → Sized b × Good b → All (ownNeeds cs) → Carried b (packedChanges cs) b o → CarriesOut b cs o
 unfolding CarriesOut listNeeds blockNeeds
 list-decides b cs o g a c = inr (g .0, inr (g .1, inr (a .0, inr (a .1 .0, inr (a .1 .1 .0, c)))))
 
@@ -176,26 +177,26 @@ abbrev tests : List ℕ → Type 0
 tests cs = All (ownNeeds cs)
 
 one-passes : tests (change true 2 9 2) × tests (change false 2 9 2) × tests (change true 2 10 2)
-unfolding IsKind kindIn halfIn packed Named Masked kindOf lettersOf
+unfolding IsKind packedKind packedHalf packed Named Masked kindOf mayHave
 one-passes = (
-  (((omega arith, omega arith), tt), (((omega arith, omega arith), tt), (((omega arith, omega arith), tt), tt))),
-  (((omega arith, omega arith), tt), (((omega arith, omega arith), tt), (((omega arith, omega arith), tt), tt))),
-  (((omega arith, omega arith), tt), (((omega arith, omega arith), tt), (((omega arith, omega arith), tt), tt))),
+  (((omega arith, omega arith), tt), (((omega arith, omega arith), tt), (((omega arith, letters-test (packedHalf (packed true 2 9 1 2)) refl), tt), tt))),
+  (((omega arith, omega arith), tt), (((omega arith, omega arith), tt), (((omega arith, letters-test (packedHalf (packed false 2 9 1 2)) refl), tt), tt))),
+  (((omega arith, omega arith), tt), (((omega arith, omega arith), tt), (((omega arith, letters-test (packedHalf (packed true 2 10 1 2)) refl), tt), tt))),
 )
 
 -- As the mill's messages: accepted, nothing to withdraw, no count left to add to, and no room.
 list-accepted : CarriesOut nothing (change true 2 9 2) (0, reads 1)
-unfolding Message messageNeeds blockNeeds number countAt lettersOf changeIn halfIn kindIn packed kindOf flags halfAt previous new changes
+unfolding Message messageNeeds blockNeeds number countAt mayHave packedChange packedHalf packedKind packed kindOf kindIn flags present halfAt halves changes
 list-accepted =
-    let p = first-passed (λ n. (n, nothing)) (Carried nothing (changes give) nothing) (0, reads 1) (λ o. o .0) (λ n. refl) (messageNeeds nothing give) (omega arith) refl first-given in
+    let p = first-passed (λ n. (n, nothing)) (Carried nothing (changes (previous give) (new give)) nothing) (0, reads 1) (λ o. o .0) (λ n. refl) (messageNeeds nothing give) (omega arith) refl first-given in
     list-decides nothing (change true 2 9 2) (0, reads 1) (p .0 .0, p .0 .1 .0) (one-passes .0) (p .1)
 
-list-refused : (b cs : List ℕ) (r : ℕ) → blockTest b ≡ true → tests cs → changeTest (changesIn cs) b r ≡ true → CarriesOut b cs (r, b)
-list-refused b cs r g a e = list-decides b cs (r, b) (block-test b g) a (change-test (changesIn cs) b r e)
+list-refused : (b cs : List ℕ) (r : ℕ) → blockTest b ≡ true → tests cs → changeTest (packedChanges cs) b r ≡ true → CarriesOut b cs (r, b)
+list-refused b cs r g a e = list-decides b cs (r, b) (block-test b g) a (change-test (packedChanges cs) b r e)
 
 list-steps : CarriesOut nothing (change false 2 9 2) (6, nothing) × CarriesOut (reads 65535) (change true 2 9 2) (7, reads 65535)
     × CarriesOut (reads 1) (change true 2 10 2) (8, reads 1)
-unfolding number countAt countFrom count room lettersOf changeIn halfIn kindIn packed kindOf ownCount
+unfolding number countAt countFrom count room mayHave packedChange packedHalf packedKind packed kindOf ownCount
 list-steps = (
   list-refused nothing (change false 2 9 2) 6 refl (one-passes .1) refl,
   list-refused (reads 65535) (change true 2 9 2) 7 refl (one-passes .0) refl,
@@ -205,7 +206,7 @@ list-steps = (
 -- ---- sets, in the block with the set `1;R` of P and key 9
 
 set-passes : (x : ℕ) → x < nameCount → All (setNeeds (reads 1) 2 x)
-unfolding setNeeds blockNeeds Sized number countAt lettersOf IsKind
+unfolding setNeeds blockNeeds Sized number countAt mayHave IsKind
 set-passes x l = ((omega arith, omega arith), (good-test (reads 1) refl, ((omega arith, omega arith), (l, tt))))
 
 -- Its text does not go into a buffer of no bytes.
@@ -215,7 +216,7 @@ no-buffer = passed-first _ (setNeeds (reads 1) 2 9) _ _ _ (set-passes 9 (omega a
 
 -- And there is no room for the same set of another key.
 set-written : Writes Permission (record { id = 1; counts = 0 ∷ 1 ∷ zeros 6 } ∷ []) (49 ∷ 59 ∷ 82 ∷ [])
-unfolding letters lettersOf digit reaches readDigits readNumber readCount readLetter readCounts readMark readRecord readMore readRecords parse
+unfolding letters mayHave digit reaches readDigits readNumber readCount readLetter readCounts readMark readRecord readMore readRecords parse
 set-written = parse-sound Permission (49 ∷ 59 ∷ 82 ∷ []) refl
 
 no-room : ReadsSet (reads 1) 2 10 (49 ∷ 59 ∷ 82 ∷ []) (8, 0, reads 1)
@@ -268,7 +269,7 @@ write-numbers =
     and tt
 
 pub read-numbers : Each ReadGives readNumbers
-unfolding Sized number countAt lettersOf IsKind
+unfolding Sized number countAt mayHave IsKind
 read-numbers =
     (twoRecords, 2, 7, _, (2, twoRecords), texts-right .0 .1)
     and no-bytes .1 .1

@@ -9,7 +9,7 @@ use borrow.Author.Tests.{eqb-true, leb-true}
 use lib.Dec.{eqb, leb}
 use Rattle.index.specs.Letters.{letterCount, In}
 use Rattle.index.specs.Block.{Sized, Good, records, room}
-use Rattle.index.specs.Message.{WellFormed, Named, Masked, Half, Change, previous, new, changes, ownCount, changeNeeds, Carried}
+use Rattle.index.specs.Message.{previous, new, changes, WellFormed, Named, Masked, Half, Change, ownCount, changeNeeds, Carried}
 use Rattle.index.specs.Message.Change.{take, add}
 use Rattle.index.specs.Numbers.{Each}
 use Rattle.index.specs.Calls.{blockNeeds, messageNeeds, Message}
@@ -27,11 +27,11 @@ Formed m = WellFormed m × Each Named (previous m ++ new m) × Each Masked (prev
 formed : (b m b′ : List ℕ) → Message b m (0, b′) → Formed m
 unfolding Message messageNeeds blockNeeds
 formed b m b′ h =
-    let p = first-passed (λ n. (n, b)) (Carried b (changes m) b) (0, b′) (λ o. o .0) (λ n. refl) (messageNeeds b m) (omega arith) refl h .0 in
+    let p = first-passed (λ n. (n, b)) (Carried b (changes (previous m) (new m)) b) (0, b′) (λ o. o .0) (λ n. refl) (messageNeeds b m) (omega arith) refl h .0 in
     (p .1 .1 .0, p .1 .1 .1 .0, p .1 .1 .1 .1 .0)
 
 -- Then on another block its steps decide.
-pub steps-decide : (b₀ b₁ b m : List ℕ) (o : ℕ × List ℕ) → Message b₀ m (0, b₁) → Sized b × Good b → Carried b (changes m) b o
+pub steps-decide : (b₀ b₁ b m : List ℕ) (o : ℕ × List ℕ) → Message b₀ m (0, b₁) → Sized b × Good b → Carried b (changes (previous m) (new m)) b o
     → Message b m o
 unfolding Message messageNeeds blockNeeds
 steps-decide b₀ b₁ b m o h g c =
@@ -99,6 +99,6 @@ change-test (add h ∷ cs) b r e = go (eqb r 7) refl e
         )
 
 -- The message, which some block accepts, is refused by this one.
-pub refused-test : (b₀ b₁ b m : List ℕ) (r : ℕ) → Message b₀ m (0, b₁) → blockTest b ≡ true → changeTest (changes m) b r ≡ true
+pub refused-test : (b₀ b₁ b m : List ℕ) (r : ℕ) → Message b₀ m (0, b₁) → blockTest b ≡ true → changeTest (changes (previous m) (new m)) b r ≡ true
     → Message b m (r, b)
-refused-test b₀ b₁ b m r h g e = steps-decide b₀ b₁ b m (r, b) h (block-test b g) (change-test (changes m) b r e)
+refused-test b₀ b₁ b m r h g e = steps-decide b₀ b₁ b m (r, b) h (block-test b g) (change-test (changes (previous m) (new m)) b r e)

@@ -2,10 +2,10 @@
 use Prim.Native.Nat.{ℕ}
 use mathlib.Core.Path.{refl}
 use mathlib.Core.List.{List, [], _∷_, _++_}
-use Rattle.index.specs.Letters.{letters, lettersOf}
+use Rattle.index.specs.Letters.{letters, mayHave}
 use Rattle.index.specs.Numbers.{Each}
 use Rattle.index.specs.Block.{number, countAt, countFrom, count, room}
-use Rattle.index.specs.Message.{kindOf, kindNumber, flags, halfAt, previous, new, changes, moves, taken, added, ownCount}
+use Rattle.index.specs.Message.{kindOf, kindNumber, kindIn, flags, present, halfAt, halves, changes, moves, taken, added, ownCount}
 use Rattle.index.specs.Text.{digitsOf, decimal, pieceOf, piecesOf, entryText, textOf, countsAt, setFrom, setOf}
 use Rattle.index.specs.work.Reading.{digit, reaches, readDigits, readNumber, readCount, readLetter, readCounts, readMark, readRecord, readMore, readRecords, parse}
 use Rattle.tight.specs.Blocks.{once, block, nothing, reads}
@@ -18,29 +18,29 @@ pub _and_ : {A B : Type 0} → A → B → A × B
 a and b = (a, b)
 
 masks-right : Each Shows masks
-unfolding number countAt countFrom count room lettersOf kindOf kindNumber flags halfAt previous new changes moves taken added ownCount
+unfolding number countAt countFrom count room mayHave kindOf kindNumber kindIn flags present halfAt halves changes moves taken added ownCount
 masks-right = all-mean masks ((granted 135 ∷ [], refl, refl) and (refl, refl, refl) and (granted 79 ∷ [], refl, refl) and (refl, refl, refl) and tt)
 
 pub texts-right : Each Shows texts
-unfolding number countAt letters lettersOf kindOf digitsOf decimal pieceOf piecesOf entryText textOf countsAt setFrom setOf digit reaches readDigits readNumber readCount readLetter readCounts readMark readRecord readMore readRecords parse
+unfolding number countAt letters mayHave kindOf digitsOf decimal pieceOf piecesOf entryText textOf countsAt setFrom setOf digit reaches readDigits readNumber readCount readLetter readCounts readMark readRecord readMore readRecords parse
 texts-right =
     all-mean texts
     ((refl, refl, refl) and refl and refl and refl and refl and refl and refl and tt and (refl, refl, refl) and tt)
 
 places-right : Each Shows places
-unfolding letters lettersOf digit reaches readDigits readNumber readCount readLetter readCounts readMark readRecord readMore readRecords parse
+unfolding letters mayHave digit reaches readDigits readNumber readCount readLetter readCounts readMark readRecord readMore readRecords parse
 places-right = all-mean places (refl and refl and refl and refl and refl and tt)
 
 chains-right : Each Shows chains
-unfolding number countAt lettersOf
+unfolding number countAt mayHave
 chains-right = all-mean chains ((refl, refl, refl) and (refl, refl, refl) and refl and (refl, refl, refl) and (refl, refl, refl) and tt)
 
 pub examined-right : Each Shows examined
-unfolding number countAt lettersOf
+unfolding number countAt mayHave
 examined-right = all-mean examined ((refl, refl, refl) and (refl, refl, refl) and (refl, refl, refl) and (refl, refl, refl) and (refl, refl, refl) and (refl, refl, refl) and (refl, refl, refl) and tt)
 
 pub appointments-right : Each Shows appointments
-unfolding number countAt countFrom count room lettersOf kindOf kindNumber flags halfAt previous new changes moves taken added ownCount
+unfolding number countAt countFrom count room mayHave kindOf kindNumber kindIn flags present halfAt halves changes moves taken added ownCount
 appointments-right =
     all-mean appointments
     ((reads 1 ∷ [], refl, refl)
@@ -52,7 +52,7 @@ appointments-right =
     and tt)
 
 pub limits-right : Each Shows limits
-unfolding number countAt countFrom count room lettersOf kindOf kindNumber flags halfAt previous new changes moves taken added ownCount
+unfolding number countAt countFrom count room mayHave kindOf kindNumber kindIn flags present halfAt halves changes moves taken added ownCount
 limits-right =
     let moved : List ℕ = block [] (once 10 1 2 ∷ []) [] 0 in
     all-mean limits

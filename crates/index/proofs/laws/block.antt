@@ -4,6 +4,8 @@ pub mod Stores
 pub mod Filling
 pub mod Bytes
 pub mod Seen
+-- Letters: which of them a kind may have.
+pub mod MayHave
 -- Records: they rise, each is there once; where one is found.
 pub mod ThreeKinds
 pub mod Records

@@ -6,7 +6,7 @@ use mathlib.Core.List.{List}
 use lib.ListN.{length, getD}
 use Rattle.index.specs.declared.Kind.{Kind}
 use Rattle.index.specs.declared.Kind.the-variants.{Membership, Permission, Filter}
-use Rattle.index.specs.Letters.{letterCount, lettersOf}
+use Rattle.index.specs.Letters.{letterCount, mayHave}
 use Rattle.index.specs.Block.{IsName, number, place, key, id, countAt, from, records, Before}
 
 -- A yes or no that is right about P.
@@ -27,9 +27,9 @@ pub record Header (b : List ℕ) : Type 0 where
 abbrev pub Counted : List ℕ → ℕ → Type 0
 Counted b i = (k : ℕ) × (k < letterCount) × (0 < countAt b i k)
 
--- Record i has zero in the counts of the letters that the kind has not.
+-- Record i has zero in the counts of the letters that a record of the kind may not have.
 abbrev pub Allowed : List ℕ → Kind → ℕ → Type 0
-Allowed b kind i = (k : ℕ) → lettersOf kind ≤ k → countAt b i k ≡ 0
+Allowed b kind i = (k : ℕ) → mayHave kind k ≡ false → countAt b i k ≡ 0
 
 -- Record i by itself, as one of the kind.
 pub record Record (b : List ℕ) (kind : Kind) (i : ℕ) : Type 0 where

@@ -9,12 +9,12 @@ use Rattle.index.specs.declared.Kind.{Kind}
 use Rattle.index.specs.declared.block.places.Found.{Found}
 use Rattle.index.specs.declared.block.places.Found.the-variants as found
 use Rattle.index.specs.declared.Kind.the-variants.{Membership, Permission, Filter}
-use Rattle.index.specs.Letters.{letterCount}
+use Rattle.index.specs.Letters.{letterCount, rightCount, mayHave}
 use Rattle.index.specs.Block.{greatestCount, IsName, headerLength, greatestLength, recordLength, place, countAt, from, size, records, key, id, Of, Good}
 use Rattle.index.specs.work.Bytes.{Inside}
 use Rattle.index.specs.work.Checks.{Header}
 use Rattle.index.specs.Numbers.{First}
-use Rattle.index.specs.Message.{IsKind, flags, Half, Named, halfAt, WellFormed, Masked, Change, Changed, ownCount, changeNeeds, kindIn, halfIn, changeIn}
+use Rattle.index.specs.Message.{IsKind, Half, halfCount, present, halfAt, WellFormed, Named, Masked, Change, Changed, ownCount, changeNeeds, packedKind, packedHalf, packedChange}
 use Rattle.index.specs.Message.Change.{take, add}
 use Rattle.index.specs.work.Places.{spot, At, Gap}
 
@@ -22,6 +22,10 @@ use Rattle.index.specs.work.Places.{spot, At, Gap}
 abbrev pub fourAt : List ℕ → ℕ → ℕ → ℕ
 fourAt b i k =
     countAt b i k + 65536 * (countAt b i (k + 1) + 65536 * (countAt b i (k + 2) + 65536 * countAt b i (k + 3)))
+
+-- The counts that record i may not have as one of the kind, as one number: those of the small letters, or none.
+abbrev pub smallAt : List ℕ → Kind → ℕ → ℕ
+smallAt b kind i = cond (mayHave kind rightCount) 0 (fourAt b i rightCount)
 
 -- The records of the kind stand below `want` before number r, and not from there on.
 pub record Lowest (b : List ℕ) (kind : Kind) (want r : ℕ) : Type 0 where
@@ -128,20 +132,19 @@ changeOf false h = take h
 
 -- The change in the number n passes the test of this number.
 unfoldable pub PassesTest : ℕ → ℕ → Type 0
-PassesTest test n = cond (eqb test 3) (IsKind (kindIn n)) (cond (eqb test 4) (Named (halfIn n)) (Masked (halfIn n)))
+PassesTest test n = cond (eqb test 3) (IsKind (packedKind n)) (cond (eqb test 4) (Named (packedHalf n)) (Masked (packedHalf n)))
 
 -- The tests have passed, of the block and of each change in the list.
 abbrev pub Prepared : List ℕ → List ℕ → Type 0
-Prepared cs b = (i : ℕ) → i < length cs → Ready (halfIn (getD cs i 0)) b
+Prepared cs b = (i : ℕ) → i < length cs → Ready (packedHalf (getD cs i 0)) b
 
 -- The first i changes of the list, one after the other, lead from b₀ to b.
 pub data Went (b₀ cs : List ℕ) : ℕ → List ℕ → Type 0 where
   nothing : Went b₀ cs 0 b₀
-  next : {i : ℕ} {b b′ : List ℕ} → Went b₀ cs i b → Ready (halfIn (getD cs i 0)) b → Step (changeIn (getD cs i 0)) b 0 b′
+  next : {i : ℕ} {b b′ : List ℕ} → Went b₀ cs i b → Ready (packedHalf (getD cs i 0)) b → Step (packedChange (getD cs i 0)) b 0 b′
       → Went b₀ cs (suc i) b′
 
 -- The tests of the message have passed.
 pub record Tested (b m : List ℕ) : Type 0 where
   pub formed : WellFormed m
-  pub previous : (flags m ≡ 2 → ⊥) → Ready (halfAt m 2) b
-  pub new : (flags m ≡ 1 → ⊥) → Ready (halfAt m 7) b
+  pub ready : (h : ℕ) → h < halfCount → present m h ≡ true → Ready (halfAt m h) b

@@ -6,7 +6,7 @@ use mathlib.Core.Bool.{Bool, true, false, cond, _&&_}
 use mathlib.Core.List.{List, [], _∷_}
 use lib.Dec.{eqb, ltb, leb}
 use Rattle.index.specs.declared.Kind.{Kind}
-use Rattle.index.specs.Letters.{letters, lettersOf}
+use Rattle.index.specs.Letters.{letters, mayHave}
 use Rattle.index.specs.Text.{Entry}
 use Rattle.index.specs.Block.{greatestCount, greatestName, nameCount}
 
@@ -62,11 +62,12 @@ unfoldable pub readLetter : Bool → ℕ → List ℕ → Parsed ℕ
 readLetter may l [] = got 0 []
 readLetter may l (b ∷ t) = cond (may && eqb b l) (readCount t) (got 0 (b ∷ t))
 
--- The counts of the letters, in their order, of which the first n may stand there.
-unfoldable pub readCounts : ℕ → List ℕ → List ℕ → Parsed (List ℕ)
-readCounts n [] t = got [] t
-readCounts n (l ∷ ls) t =
-    andThen (readLetter (ltb 0 n) l t) (λ c r. andThen (readCounts (n - 1) ls r) (λ cs s. got (c ∷ cs) s))
+-- The counts of the letters ls, in their order, the first of which is letter k.
+unfoldable pub readCounts : Kind → ℕ → List ℕ → List ℕ → Parsed (List ℕ)
+readCounts kind k [] t = got [] t
+readCounts kind k (l ∷ ls) t =
+    andThen (readLetter (mayHave kind k) l t)
+    (λ c r. andThen (readCounts kind (k + 1) ls r) (λ cs s. got (c ∷ cs) s))
 
 -- `;`
 unfoldable pub readMark : List ℕ → Parsed ℕ
@@ -80,7 +81,7 @@ total (c ∷ cs) = c + total cs
 -- A record: id, `;`, letters, of which there is one at least.
 abbrev pub readLetters : Kind → ℕ → List ℕ → Parsed Entry
 readLetters kind i t =
-    andThen (readCounts (lettersOf kind) letters t)
+    andThen (readCounts kind 0 letters t)
     (λ cs r. cond (ltb 0 (total cs)) (got (record { id = i; counts = cs }) r) (wrong r))
 
 abbrev pub readAfterId : Kind → ℕ → List ℕ → Parsed Entry

@@ -3,11 +3,10 @@
 use crate::GREATEST;
 use crate::HEADER;
 use crate::Kind;
-use crate::LETTER_COUNT;
 use crate::NAMES;
 use crate::RECORD;
 use crate::RIGHTS;
-use crate::block::letters::letters_of;
+use crate::block::letters::may_have;
 use crate::block::numbers::number_at;
 use crate::block::numbers::pair_at;
 use crate::block::places::first_of;
@@ -15,10 +14,10 @@ use crate::block::places::size_at;
 ghost use mathlib.Core.Path.{_≡_};
 ghost use Prim.Native.Nat.{_+_, _≤_};
 ghost use lib.ListN.{length};
-ghost use Rattle.index.specs.Letters.{letterCount, lettersOf};
+ghost use Rattle.index.specs.Letters.{letterCount};
 ghost use Rattle.index.specs.Block.{headerLength, place, key, id, from, size, records, Good};
 ghost use Rattle.index.specs.work.Bytes.{Pair};
-ghost use Rattle.index.specs.work.Edits.{fourAt};
+ghost use Rattle.index.specs.work.Edits.{fourAt, smallAt};
 ghost use Rattle.index.specs.work.Checks.{Says, Header, Counted, Allowed, Part, Zero};
 ghost use Rattle.index.specs.Calls.{blockNeeds};
 ghost use Rattle.index.specs.Numbers.{Answers};
@@ -75,9 +74,9 @@ fn four_at(b: &[u8], i: usize, k: usize) -> usize
 // The counts that record i may not have as one of the kind, as one number: those of the small letters, or none.
 fn small_at(b: &[u8], kind: Kind, i: usize) -> usize
     requires { ⌜ place (i + 1) ≤ length (now b) ⌝ }
-    ensures { λ r. ⌜ r ≡ fourAt (now (b .entry)) i (lettersOf kind) ⌝ }
+    ensures { λ r. ⌜ r ≡ smallAt (now (b .entry)) kind i ⌝ }
 {
-    if letters_of(kind) >= LETTER_COUNT {
+    if may_have(kind, RIGHTS) {
         return 0;
     }
     four_at(b, i, RIGHTS)
@@ -91,7 +90,7 @@ fn has_count(b: &[u8], kind: Kind, i: usize) -> bool
     if four_at(b, i, 0) != 0 {
         return true;
     }
-    if letters_of(kind) < LETTER_COUNT {
+    if !may_have(kind, RIGHTS) {
         return false;
     }
     if four_at(b, i, RIGHTS) == 0 {

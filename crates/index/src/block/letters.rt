@@ -4,9 +4,11 @@ use crate::Kind;
 use crate::LETTER_COUNT;
 use crate::RIGHTS;
 ghost use mathlib.Core.Path.{_≡_};
+ghost use mathlib.Core.Bool.{true};
 ghost use Prim.Native.Nat.{ℕ, _<_, _^_};
 ghost use lib.ListN.{length, getD};
-ghost use Rattle.index.specs.Letters.{letterCount, letters, lettersOf};
+ghost use Rattle.index.specs.Letters.{letterCount, letters, In, mayHave};
+ghost use Rattle.index.specs.work.Checks.{Says};
 
 // A letter of a set's text, with the mask of what it stands for.
 pub struct Letter {
@@ -97,13 +99,27 @@ pub(crate) fn letter_bytes() -> [u8; LETTER_COUNT]
     bytes
 }
 
-// How many of the letters a record of the kind may have.
-pub(crate) fn letters_of(kind: Kind) -> usize
-    ensures { λ r. ⌜ r ≡ lettersOf kind ⌝ }
+// A record of the kind may have letter k.
+pub(crate) fn may_have(kind: Kind, k: usize) -> bool
+    ensures { λ r. ⌜ r ≡ mayHave kind k ⌝ }
 {
     match kind {
-        Kind::Membership => RIGHTS,
-        Kind::Permission => LETTER_COUNT,
-        Kind::Filter => RIGHTS,
+        Kind::Membership => k < RIGHTS,
+        Kind::Permission => k < LETTER_COUNT,
+        Kind::Filter => k < RIGHTS,
     }
+}
+
+// It may have each letter of the mask.
+pub(crate) fn may_have_all(kind: Kind, mask: usize) -> bool
+    ensures { λ r. ⌜ Says ((k : ℕ) → In k mask → mayHave kind k ≡ true) r ⌝ }
+{
+    let mut k = 0;
+    while k < LETTER_COUNT {
+        if ((mask >> k) % 2 == 1) & !may_have(kind, k) {
+            return false;
+        }
+        k += 1;
+    }
+    mask >> LETTER_COUNT == 0
 }

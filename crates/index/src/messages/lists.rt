@@ -1,9 +1,8 @@
 // A list of changes from a crate above: its tests, and what it does.
 
-use crate::NAMES;
 use crate::block::checks::tested;
-use crate::block::kinds::kind_of;
-use crate::messages::plain::mask_end;
+use crate::messages::halves::is_masked;
+use crate::messages::halves::is_named;
 use crate::messages::run::half_in;
 use crate::messages::run::run;
 ghost use Rattle.index.specs.Numbers.{Answers, Each};
@@ -26,21 +25,9 @@ fn passes(test: u8, n: u64) -> bool
         return true;
     }
     if test == 4 {
-        if h.x >= NAMES {
-            return false;
-        }
-        if h.y >= NAMES {
-            return false;
-        }
-        return true;
+        return is_named(h);
     }
-    if h.mask == 0 {
-        return false;
-    }
-    if h.mask >= mask_end(kind_of(h.kind)) {
-        return false;
-    }
-    true
+    is_masked(h)
 }
 
 // Each change of the list passes the test.

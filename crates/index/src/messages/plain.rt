@@ -1,30 +1,38 @@
-// A message: its tests, and what it does.
+// A plain message: its tests, and what it does.
 
-use crate::Kind;
-use crate::NAMES;
 use crate::block::checks::tested;
-use crate::block::kinds::kind_of;
-use crate::block::letters::letters_of;
-use crate::block::numbers::number_at;
 use crate::messages::carry::carry;
+use crate::messages::halves::FIRST;
+use crate::messages::halves::HALF;
+use crate::messages::halves::MESSAGE;
+use crate::messages::halves::NEW;
+use crate::messages::halves::PREVIOUS;
+use crate::messages::halves::half_at;
+use crate::messages::halves::is_masked;
+use crate::messages::halves::is_named;
+use crate::messages::halves::is_present;
 ghost use mathlib.Core.Path.{_≡_};
+ghost use mathlib.Core.Bool.{false};
 ghost use mathlib.Core.List.{_++_};
-ghost use Prim.Native.Nat.{_+_, _^_, _≤_};
+ghost use Prim.Native.Nat.{_<_};
 ghost use lib.ListN.{length};
-ghost use Rattle.index.specs.Letters.{lettersOf};
 ghost use Rattle.index.specs.Numbers.{Answers, Each};
-ghost use Rattle.index.specs.Message.{flags, halfAt, previous, new, Blank, WellFormed, Named, Masked};
+ghost use Rattle.index.specs.Message.{messageLength, halfCount, present, halves, previous, new, Blank, WellFormed, Named, Masked};
 ghost use Rattle.index.specs.Calls.{messageNeeds, Message};
 ghost use Rattle.index.specs.work.Checks.{Says};
 
-// The five bytes at i are zero.
-fn blank(m: &[u8], i: usize) -> bool
-    requires { ⌜ i + 5 ≤ length (now m) ⌝ }
-    ensures { λ r. ⌜ Says (Blank (now (m .entry)) i) r ⌝ }
+// Half h is five zero bytes, unless it is present.
+fn blank(m: &[u8], h: usize) -> bool
+    requires { ⌜ (length (now m) ≡ messageLength) × (h < halfCount) ⌝ }
+    ensures { λ r. ⌜ Says (present (now (m .entry)) h ≡ false → Blank (now (m .entry)) h) r ⌝ }
 {
-    let mut j = i;
-    while j < i + 5 {
-        if m[j] != 0 {
+    if is_present(m, h) {
+        return true;
+    }
+    let i = FIRST + HALF * h;
+    let mut j = 0;
+    while j < HALF {
+        if m[i + j] != 0 {
             return false;
         }
         j += 1;
@@ -36,7 +44,7 @@ fn blank(m: &[u8], i: usize) -> bool
 fn well_formed(m: &[u8]) -> bool
     ensures { λ r. ⌜ Says (WellFormed (now (m .entry))) r ⌝ }
 {
-    if m.len() != 12 {
+    if m.len() != MESSAGE {
         return false;
     }
     let kind = m[0];
@@ -53,55 +61,32 @@ fn well_formed(m: &[u8]) -> bool
     if flags > 3 {
         return false;
     }
-    if flags == 1 {
-        return blank(m, 7);
+    if !blank(m, PREVIOUS) {
+        return false;
     }
-    if flags == 2 {
-        return blank(m, 2);
-    }
-    true
+    blank(m, NEW)
 }
 
-// The names of the half at byte i, which is there unless the flags are `absent`, are below 1024.
-fn names_good(m: &[u8], i: usize, absent: u8) -> bool
-    requires { ⌜ (length (now m) ≡ 12) × (i + 5 ≤ 12) ⌝ }
-    ensures { λ r. ⌜ Says ((flags (now (m .entry)) ≡ absent → ⊥) → Named (halfAt (now (m .entry)) i)) r ⌝ }
+// Half h has its names below 1024, if it is present.
+fn names_good(m: &[u8], h: usize) -> bool
+    requires { ⌜ (length (now m) ≡ messageLength) × (h < halfCount) ⌝ }
+    ensures { λ r. ⌜ Says (Each Named (halves (now (m .entry)) h)) r ⌝ }
 {
-    if m[1] == absent {
+    if !is_present(m, h) {
         return true;
     }
-    if number_at(m, i) >= NAMES {
-        return false;
-    }
-    if number_at(m, i + 2) >= NAMES {
-        return false;
-    }
-    true
+    is_named(half_at(m, h))
 }
 
-// The masks of letters of the kind are below this one.
-pub(crate) fn mask_end(kind: Kind) -> usize
-    ensures { λ r. ⌜ r ≡ 2 ^ lettersOf kind ⌝ }
+// Half h has a good mask, if it is present.
+fn mask_good(m: &[u8], h: usize) -> bool
+    requires { ⌜ (length (now m) ≡ messageLength) × (h < halfCount) ⌝ }
+    ensures { λ r. ⌜ Says (Each Masked (halves (now (m .entry)) h)) r ⌝ }
 {
-    1 << letters_of(kind)
-}
-
-// The mask of the half at byte i, which is there unless the flags are `absent`, is not 0, nor above 15 for M or F.
-fn mask_good(m: &[u8], i: usize, absent: u8) -> bool
-    requires { ⌜ (length (now m) ≡ 12) × (i + 5 ≤ 12) ⌝ }
-    ensures { λ r. ⌜ Says ((flags (now (m .entry)) ≡ absent → ⊥) → Masked (halfAt (now (m .entry)) i)) r ⌝ }
-{
-    if m[1] == absent {
+    if !is_present(m, h) {
         return true;
     }
-    let mask = m[i + 4] as usize;
-    if mask == 0 {
-        return false;
-    }
-    if mask >= mask_end(kind_of(m[0] as u64)) {
-        return false;
-    }
-    true
+    is_masked(half_at(m, h))
 }
 
 // Each half that is there has its names below 1024.
@@ -109,10 +94,10 @@ fn named(m: &[u8]) -> bool
     requires { ⌜ WellFormed (now m) ⌝ }
     ensures { λ r. ⌜ Says (Each Named (previous (now (m .entry)) ++ new (now (m .entry)))) r ⌝ }
 {
-    if !names_good(m, 2, 2) {
+    if !names_good(m, PREVIOUS) {
         return false;
     }
-    names_good(m, 7, 1)
+    names_good(m, NEW)
 }
 
 // Each half that is there has a good mask.
@@ -120,10 +105,10 @@ fn masked(m: &[u8]) -> bool
     requires { ⌜ WellFormed (now m) ⌝ }
     ensures { λ r. ⌜ Says (Each Masked (previous (now (m .entry)) ++ new (now (m .entry)))) r ⌝ }
 {
-    if !mask_good(m, 2, 2) {
+    if !mask_good(m, PREVIOUS) {
         return false;
     }
-    mask_good(m, 7, 1)
+    mask_good(m, NEW)
 }
 
 // The tests 1 to 5.

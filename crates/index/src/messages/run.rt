@@ -3,11 +3,12 @@
 use crate::block::kinds::kind_of;
 use crate::messages::edits::put_in;
 use crate::messages::edits::take_away;
+use crate::messages::halves::Half;
 ghost use mathlib.Core.Path.{_≡_};
 ghost use mathlib.Core.List.{List};
 ghost use Prim.Native.Nat.{ℕ, _+_, _/_, _%_, _≤_};
 ghost use lib.ListN.{length};
-ghost use Rattle.index.specs.Message.{kindOf, Carried, packed, kindIn, halfIn, changeIn, changesIn};
+ghost use Rattle.index.specs.Message.{kindOf, Carried, packed, packedKind, packedHalf, packedChange, packedChanges};
 ghost use Rattle.index.specs.work.Edits.{half, Ready, Step, Prepared, Went};
 
 // A change as a number.
@@ -22,16 +23,9 @@ pub fn pack(adds: bool, kind: u8, key: u16, name: u16, mask: u16) -> u64
     2 * half
 }
 
-// The half of a change, with the number of its kind.
-pub(crate) struct Half {
-    pub(crate) kind: u64,
-    pub(crate) x: usize,
-    pub(crate) y: usize,
-    pub(crate) mask: usize,
-}
-
+// The half of a change.
 pub(crate) fn half_in(n: u64) -> Half
-    ensures { λ r. ⌜ (r .kind ≡ kindIn n) × (half (kindOf (r .kind)) (r .x) (r .y) (r .mask) ≡ halfIn n) ⌝ }
+    ensures { λ r. ⌜ (r .kind ≡ packedKind n) × (half (kindOf (r .kind)) (r .x) (r .y) (r .mask) ≡ packedHalf n) ⌝ }
 {
     let half = n / 2;
     Half {
@@ -44,8 +38,8 @@ pub(crate) fn half_in(n: u64) -> Half
 
 // One change.
 fn change(b: &mut [u8], n: u64) -> u8
-    requires { ⌜ Ready (halfIn n) (now b) ⌝ }
-    ensures { λ r. ⌜ Step (changeIn n) (now (b .entry)) r (now (b .exit)) ⌝ }
+    requires { ⌜ Ready (packedHalf n) (now b) ⌝ }
+    ensures { λ r. ⌜ Step (packedChange n) (now (b .entry)) r (now (b .exit)) ⌝ }
 {
     let h = half_in(n);
     let kind = kind_of(h.kind);
@@ -80,7 +74,7 @@ fn undo(b: &mut [u8], changes: &[u64], n: usize)
 // The changes one after the other. The first that is refused gives its number, and those before it are undone.
 pub(crate) fn run(b: &mut [u8], changes: &[u64]) -> u8
     requires { ⌜ Prepared (now changes) (now b) ⌝ }
-    ensures { λ r. ⌜ Carried (now (b .entry)) (changesIn (now (changes .entry))) (now (b .entry)) (r, now (b .exit)) ⌝ }
+    ensures { λ r. ⌜ Carried (now (b .entry)) (packedChanges (now (changes .entry))) (now (b .entry)) (r, now (b .exit)) ⌝ }
 {
     let mut i = 0;
     while i < changes.len() {

@@ -4,35 +4,34 @@ use crate::GREATEST_NAME;
 use crate::Kind;
 use crate::LETTER_COUNT;
 use crate::block::letters::letter_bytes;
-use crate::block::letters::letters_of;
+use crate::block::letters::may_have;
 use crate::text::reading::Cursor;
 use crate::text::reading::Piece;
 use crate::text::reading::count;
 use crate::text::reading::mark;
 use crate::text::reading::number;
 ghost use mathlib.Core.Path.{_≡_};
-ghost use Prim.Native.Nat.{_-_, _<_};
+ghost use Prim.Native.Nat.{_<_};
 ghost use mathlib.Core.Bool.{true};
 ghost use mathlib.Core.List.{List, _∷_};
 ghost use lib.Dec.{ltb};
-ghost use lib.ListN.{length, getD, drop};
+ghost use lib.ListN.{length, drop};
 ghost use Rattle.index.specs.Block.{IsName};
-ghost use Rattle.index.specs.Letters.{letterCount, letters, lettersOf};
+ghost use Rattle.index.specs.Letters.{letterCount, letters};
 ghost use Rattle.index.specs.Text.{Entry, IsSet};
 ghost use Rattle.index.specs.work.Reading.{readLetter, readCounts, total, readRecord};
 ghost use Rattle.index.specs.work.Reading.Parsed.{got};
 ghost use Rattle.index.specs.work.Pieces.{SeesNumber, SeesLetters, SeesEntry, rest};
 
-// The count of letter k, whose byte is given, at the cursor; 0 where it does not stand there. The first `may` letters may.
-fn counted(text: &[u8], c: Cursor, may: usize, k: usize, byte: u8) -> Piece
-    requires { ⌜ byte ≡ getD letters k 0 ⌝ }
-    ensures { λ r. ⌜ SeesNumber (now (text .entry)) r (readLetter (ltb 0 (may - k)) (getD letters k 0) (drop (c .at) (now (text .entry)))) ⌝ }
+// The count of the letter with this byte at the cursor; 0 where it does not stand there, or may not.
+fn counted(text: &[u8], c: Cursor, may: bool, byte: u8) -> Piece
+    ensures { λ r. ⌜ SeesNumber (now (text .entry)) r (readLetter may byte (drop (c .at) (now (text .entry)))) ⌝ }
 {
     let at = c.at;
     if text.len() <= at {
         return Piece::Number(0, c);
     }
-    if may <= k {
+    if !may {
         return Piece::Number(0, c);
     }
     if text[at] == byte {
@@ -46,14 +45,13 @@ fn counted(text: &[u8], c: Cursor, may: usize, k: usize, byte: u8) -> Piece
 fn counts(text: &[u8], c: Cursor, kind: Kind, out: &mut [usize; LETTER_COUNT]) -> Piece
     requires { ⌜ length (now out) ≡ letterCount ⌝ }
     ensures { λ r. ⌜ length (now (out .exit)) ≡ letterCount ⌝ }
-    ensures { λ r. ⌜ SeesLetters (now (text .entry)) r (now (out .exit)) (readCounts (lettersOf kind) letters (drop (c .at) (now (text .entry)))) ⌝ }
+    ensures { λ r. ⌜ SeesLetters (now (text .entry)) r (now (out .exit)) (readCounts kind 0 letters (drop (c .at) (now (text .entry)))) ⌝ }
 {
-    let may = letters_of(kind);
     let bytes = letter_bytes();
     let mut here = c;
     let mut k = 0;
     while k < LETTER_COUNT {
-        let piece = counted(text, here, may, k, bytes[k]);
+        let piece = counted(text, here, may_have(kind, k), bytes[k]);
         let Piece::Number(n, next) = piece else {
             return piece;
         };

@@ -5,37 +5,23 @@ use mathlib.Core.Bool.{Bool, true, false}
 use mathlib.Core.Logic.{⊎-elim}
 use mathlib.Core.List.{List}
 use native.Mathlib.Omega.{arith}
-use borrow.Author.Tests.{eqb-true, eqb-false}
+use borrow.Author.Tests.{eqb-true, eqb-false, ltb-false, le-ltb}
 use lib.Bits.{bitOr, or-shr, or-mod}
 use lib.Dec.{eqb}
 use lib.ListN.{length, getD, List·getD-eq-default}
 use Rattle.index.specs.declared.Kind.{Kind}
 use Rattle.index.specs.declared.Kind.the-variants.{Membership, Permission, Filter}
-use Rattle.index.specs.Letters.{letterCount, lettersOf}
+use Rattle.index.specs.Letters.{letterCount, rightCount, mayHave}
 use Rattle.index.specs.Block.{IsName, place, key, id, countAt, from, size, records, Before, Good}
 use Rattle.index.specs.work.Bytes.{Pair}
 use Rattle.index.specs.work.Checks.{Says, Header, Counted, Allowed, Part, Zero}
-use Rattle.index.specs.work.Edits.{fourAt}
+use Rattle.index.specs.work.Edits.{fourAt, smallAt}
 use Rattle.index.proofs.laws.block.Bytes.{count-out}
 use Rattle.index.proofs.laws.Range.{lt-or-le, from-more}
 use Rattle.index.proofs.laws.block.Records.{before-spot}
 use Rattle.index.proofs.laws.block.Seen.{Seen, seen-none, seen-more}
 use Rattle.index.proofs.laws.block.Together.{together}
 use Rattle.index.proofs.laws.block.Splice.{good-record}
-
--- ---- letters
-
-pub letters-four : (kind : Kind) → lettersOf kind < letterCount → lettersOf kind ≡ 4
-unfolding lettersOf
-letters-four Membership h = refl
-letters-four Permission h = absurd (omega arith)
-letters-four Filter h = refl
-
-pub four-letters : (kind : Kind) → 4 ≤ lettersOf kind
-unfolding lettersOf
-four-letters Membership = omega arith
-four-letters Permission = omega arith
-four-letters Filter = omega arith
 
 -- ---- four counts as one number
 
@@ -79,6 +65,19 @@ module _ (b : List ℕ) (i : ℕ) where
       ⊎-elim (λ h. omega (arith, c .2, four-none b i 0 d (c .0) (omega arith) h)) (λ h. omega (arith, c .2, all (c .0) h))
       (lt-or-le (c .0) 4)
 
+-- The counts that a record may not have are those of the small letters, or none.
+pub small-allowed : (kind : Kind) (b : List ℕ) (i : ℕ) → smallAt b kind i ≡ 0 → Allowed b kind i
+unfolding mayHave
+small-allowed Membership b i e k n = after-none b i rightCount (omega arith) e k (ltb-false k rightCount n)
+small-allowed Permission b i e k n = count-out b i k (ltb-false k letterCount n)
+small-allowed Filter b i e k n = after-none b i rightCount (omega arith) e k (ltb-false k rightCount n)
+
+pub allowed-small : (kind : Kind) (b : List ℕ) (i : ℕ) → Allowed b kind i → smallAt b kind i ≡ 0
+unfolding mayHave
+allowed-small Membership b i a = none-after b i rightCount (λ k l. a k (le-ltb k rightCount l))
+allowed-small Permission b i a = refl
+allowed-small Filter b i a = none-after b i rightCount (λ k l. a k (le-ltb k rightCount l))
+
 -- ---- a part, record by record
 
 pub part-none : {b : List ℕ} {kind : Kind} {i : ℕ} (j : ℕ) → j ≤ i → Part b kind i j
@@ -91,7 +90,7 @@ pub record Passed (b : List ℕ) (kind : Kind) (i n names small : ℕ) : Type 0 
   pub rising : (m : ℕ) → i ≤ m → m + 1 < n → Before b m (m + 1)
   pub keys : Seen 10 (key b) i n (names / 65536)
   pub ids : Seen 10 (id b) i n (names % 65536)
-  pub smalls : Seen 0 (λ m. fourAt b m (lettersOf kind)) i n small
+  pub smalls : Seen 0 (smallAt b kind) i n small
 
 pub passed-none : (b : List ℕ) (kind : Kind) (i : ℕ) → Passed b kind i i 0 0
 passed-none b kind i =
@@ -100,12 +99,12 @@ passed-none b kind i =
       rising = λ m l h. absurd (omega arith);
       keys = seen-none 10 (key b) i;
       ids = seen-none 10 (id b) i;
-      smalls = seen-none 0 (λ m. fourAt b m (lettersOf kind)) i;
+      smalls = seen-none 0 (smallAt b kind) i;
     }
 
 pub passed-more : {b : List ℕ} {kind : Kind} {i n names small rank four : ℕ} → i ≤ n → Passed b kind i n names small
     → (Allowed b kind n → Counted b n) → ((m : ℕ) → i ≤ m → m + 1 ≡ n → Before b m (m + 1))
-    → Pair (id b n) (key b n) rank → four ≡ fourAt b n (lettersOf kind)
+    → Pair (id b n) (key b n) rank → four ≡ smallAt b kind n
     → Passed b kind i (n + 1) (bitOr names rank) (bitOr small four)
 passed-more {b} {kind} {i} {n} {names} {rank = rank} l p c step r f =
     record {
@@ -128,8 +127,7 @@ passed-part {b} {kind} {n = n} j l p z x y =
       each =
           λ m k h.
           let h : m < n = omega arith in
-          let e : fourAt b m (lettersOf kind) ≡ 0 = omega (arith, p .smalls .each-then (omega arith) m k h) in
-          let a = after-none b m (lettersOf kind) (four-letters kind) e in
+          let a = small-allowed kind b m (omega (arith, p .smalls .each-then (omega arith) m k h)) in
           record {
             key-below = p .keys .each-then x m k h;
             id-below = p .ids .each-then y m k h;
@@ -142,7 +140,7 @@ passed-part {b} {kind} {n = n} j l p z x y =
 pub part-passed : {b : List ℕ} {kind : Kind} {i j n names small : ℕ} → (i < n → n ≤ j) → Passed b kind i n names small
     → Part b kind i j → (small ≡ 0) × IsName (names / 65536) × IsName (names % 65536)
 part-passed {b} {kind} {i} {j} {n} l p whole = (
-  omega (arith, p .smalls .only-then (λ m k h. omega (arith, none-after b m (lettersOf kind) (whole .each m k (inside m k h) .allowed)))),
+  omega (arith, p .smalls .only-then (λ m k h. omega (arith, allowed-small kind b m (whole .each m k (inside m k h) .allowed)))),
   p .keys .only-then (λ m k h. whole .each m k (inside m k h) .key-below),
   p .ids .only-then (λ m k h. whole .each m k (inside m k h) .id-below),
 )

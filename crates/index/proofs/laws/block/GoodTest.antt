@@ -1,7 +1,7 @@
 -- A test of a good block that computes: what it says yes to is good.
 use Prim.Native.Nat.{ℕ, zero, suc, _+_, _-_, _*_, _<_, _≤_}
 use mathlib.Core.Path.{_≡_, refl, sym, ap, subst, _∙_}
-use mathlib.Core.Bool.{Bool, true, false, _&&_}
+use mathlib.Core.Bool.{Bool, true, false, _&&_, _||_}
 use mathlib.Core.List.{List, [], _∷_}
 use mathlib.Core.Logic.{⊎-elim}
 use native.Mathlib.Omega.{arith}
@@ -10,7 +10,7 @@ use lib.Dec.{eqb, ltb, leb}
 use lib.ListN.{length, getD, List·getD-eq-default}
 use Rattle.index.specs.declared.Kind.{Kind}
 use Rattle.index.specs.declared.Kind.the-variants.{Membership, Permission, Filter}
-use Rattle.index.specs.Letters.{letterCount, lettersOf}
+use Rattle.index.specs.Letters.{letterCount, mayHave}
 use Rattle.index.specs.Block.{nameCount, number, size, from, records, Of, place, key, id, countAt, Good}
 use Rattle.index.specs.work.Places.{spot}
 use Rattle.index.specs.work.Checks.{Header, Record}
@@ -47,22 +47,26 @@ abbrev recordTest : List ℕ → Kind → ℕ → Bool
 recordTest b kind i =
     ltb (key b i) nameCount
     && (ltb (id b i) nameCount
-    && (some (λ k. ltb 0 (countAt b i k)) 0 letterCount && all (λ k. eqb (countAt b i k) 0) (lettersOf kind) letterCount))
+    && (some (λ k. ltb 0 (countAt b i k)) 0 letterCount && all (λ k. mayHave kind k || eqb (countAt b i k) 0) 0 letterCount))
 
 record-test : (b : List ℕ) (kind : Kind) (i : ℕ) → recordTest b kind i ≡ true → Record b kind i
 record-test b kind i e =
     let above : ℕ → Bool = λ k. ltb 0 (countAt b i k) in
-    let none : ℕ → Bool = λ k. eqb (countAt b i k) 0 in
+    let none : ℕ → Bool = λ k. mayHave kind k || eqb (countAt b i k) 0 in
     let p = both (ltb (key b i) nameCount) _ e in
     let q = both (ltb (id b i) nameCount) _ (p .1) in
-    let r = both (some above 0 letterCount) (all none (lettersOf kind) letterCount) (q .1) in
+    let r = both (some above 0 letterCount) (all none 0 letterCount) (q .1) in
     let c = some-at above 0 letterCount (r .0) in
     record {
       key-below = ltb-true _ _ (p .0);
       id-below = ltb-true _ _ (q .0);
       counted = (c .0, omega (arith, c .1), ltb-true _ _ (c .2));
       allowed = λ k l.
-          ⊎-elim (λ h. eqb-true _ _ (all-at none (lettersOf kind) letterCount (r .1) k l (omega arith))) (λ h. count-out b i k h)
+          ⊎-elim
+          (λ h.
+          let e = all-at none 0 letterCount (r .1) k (omega arith) (omega arith) in
+          eqb-true _ _ (rw l at e))
+          (λ h. count-out b i k h)
           (lt-or-le k letterCount);
     }
 

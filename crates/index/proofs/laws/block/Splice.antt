@@ -7,7 +7,7 @@ use native.Mathlib.Omega.{arith}
 use lib.ListN.{length, getD}
 use Rattle.index.specs.declared.Kind.{Kind}
 use Rattle.index.specs.declared.Kind.the-variants.{Membership, Permission, Filter}
-use Rattle.index.specs.Letters.{letterCount, lettersOf}
+use Rattle.index.specs.Letters.{letterCount}
 use Rattle.index.specs.Block.{headerLength, number, size, from, records, Of, place, key, id, countAt, Good, count, recordLength}
 use Rattle.index.specs.Message.{kindNumber}
 use Rattle.index.specs.work.Places.{spot, At}

@@ -7,8 +7,7 @@ use mathlib.Core.List.List·Permᴰ.{List·Permᴰ·nil, List·Permᴰ·cons, Li
 use lib.ListN.{length}
 use Rattle.index.specs.declared.Kind.{Kind}
 use Rattle.index.specs.Block.{Good, count}
-use Rattle.index.specs.Message.{Change, taken, added, Changed, Carried, changesIn}
-use Rattle.index.specs.Message.{steps}
+use Rattle.index.specs.Message.{Change, changes, taken, added, Changed, Carried, packedChanges}
 use Rattle.index.specs.Letters.{letterCount}
 use Rattle.index.specs.Calls.{blockNeeds, listNeeds, CarriesOut}
 use Rattle.index.specs.History.{Sent, previousOf, newOf, Outcome, Accepted}
@@ -22,7 +21,7 @@ sum f [] = 0
 sum f (c ∷ cs) = f c + sum f cs
 
 abbrev pub stepsOf : Sent → List Change
-stepsOf m = steps (previousOf m) (newOf m)
+stepsOf m = changes (previousOf m) (newOf m)
 
 abbrev total : (Change → ℕ) → List Sent → ℕ
 total f [] = 0
@@ -65,11 +64,11 @@ balance b m b′ h =
     (λ o p z. run-balance b (stepsOf m) (o .1) (subst (λ (n : ℕ). Carried b (stepsOf m) b (n, o .1)) z p)) (0, b′) h refl
 
 -- The same of a list of changes from a crate above.
-pub list-balance : (b cs b′ : List ℕ) → CarriesOut b cs (0, b′) → Balanced (changesIn cs) b b′
+pub list-balance : (b cs b′ : List ℕ) → CarriesOut b cs (0, b′) → Balanced (packedChanges cs) b b′
 unfolding CarriesOut listNeeds blockNeeds
 list-balance b cs b′ h =
-    run-balance b (changesIn cs) b′
-    (first-passed (λ n. (n, b)) (Carried b (changesIn cs) b) (0, b′) (λ o. o .0) (λ n. refl) (listNeeds b cs) (omega arith) refl h .1)
+    run-balance b (packedChanges cs) b′
+    (first-passed (λ n. (n, b)) (Carried b (packedChanges cs) b) (0, b′) (λ o. o .0) (λ n. refl) (listNeeds b cs) (omega arith) refl h .1)
 
 record All (ms : List Sent) (b b′ : List ℕ) : Type 0 where
   good : Good b → Good b′

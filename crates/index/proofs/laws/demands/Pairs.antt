@@ -1,5 +1,5 @@
 -- A statement counts once in each of its pairs.
-use Prim.Native.Nat.{ℕ, _+_, _/_, _%_, _^_, _<_, _≤_}
+use Prim.Native.Nat.{ℕ, _+_, _*_, _/_, _%_, _^_, _<_, _≤_}
 use native.Mathlib.Omega.{arith}
 use native.Mathlib.Decide.{ℕ-discrete}
 use mathlib.Core.Path.{_≡_, refl}
@@ -9,8 +9,8 @@ use lib.Dec.{eqb}
 use lib.ListN.{getD}
 use Rattle.index.specs.declared.Kind.{Kind}
 use Rattle.index.specs.Numbers.{Each}
-use Rattle.index.specs.Message.{kindOf, kindNumber, Half, Carried, moves, flags, halfAt, new}
-use Rattle.index.specs.Wide.{names, Rising, WideFormed, newMask, pairs, wideNew, wideChanges, namesFrom}
+use Rattle.index.specs.Message.{kindOf, kindNumber, Half, halfCount, kindIn, present, halfAt, halves, new, changes, Carried, moves}
+use Rattle.index.specs.Wide.{names, Rising, WideFormed, maskIn, pairs, wideHalves, widePrevious, wideNew, namesFrom}
 use Rattle.index.specs.Calls.{blockNeeds, wideNeeds, Wide}
 use Rattle.index.specs.History.{Sent, newOf, Outcome, movesOf}
 use Rattle.index.specs.History.Sent.{plain, wide}
@@ -90,26 +90,26 @@ module _ (K : Kind) (mask : ℕ) (kind : Kind) (x y k : ℕ) where
 -- ---- what is sent leaves a statement that counts once
 
 plain-once : (m : List ℕ) → CountsOnce (new m)
-unfolding new movesOf
-plain-once m kind x y k = go (eqb (flags m / 2 % 2) 1)
+unfolding halves movesOf
+plain-once m kind x y k = go (present m 1)
   where
-    go : (t : Bool) → movesOf (cond t (halfAt m 7 ∷ []) []) kind x y k ≤ 1
-    go true = omega (arith, moves-once (halfAt m 7) kind x y k)
+    go : (t : Bool) → movesOf (cond t (halfAt m 1 ∷ []) []) kind x y k ≤ 1
+    go true = omega (arith, moves-once (halfAt m 1) kind x y k)
     go false = omega arith
 
 -- An absent half has no names.
-new-rising : (m : List ℕ) → WideFormed m → Rising (names m 2) × Rising (names m 3)
+half-rising : (m : List ℕ) (h : ℕ) → h < halfCount → WideFormed m → Rising (names m (2 * h)) × Rising (names m (2 * h + 1))
 unfolding names namesFrom Rising
-new-rising m w =
-    elim (ℕ-discrete (flags m) 1) [
-      | yes e ↦ let z = w .no-new e in rw (z .0, z .1) (tt, tt)
-      | no n ↦ let g = w .new n in (g .0 .2, g .1 .2)
-    ]
+half-rising m h l w = go (present m h) refl
+  where
+    go : (t : Bool) → present m h ≡ t → Rising (names m (2 * h)) × Rising (names m (2 * h + 1))
+    go true e = let g = w .lists h l e in (g .0 .2, g .1 .2)
+    go false e = let z = w .absent h l e in rw (z .0, z .1) (tt, tt)
 
 pub counts-once : (b : List ℕ) (m : Sent) (b′ : List ℕ) → Outcome b m (0, b′) → CountsOnce (newOf m)
-unfolding Wide wideNeeds blockNeeds wideNew
+unfolding Wide wideNeeds blockNeeds wideHalves
 counts-once b (plain m) b′ h = plain-once m
 counts-once b (wide m) b′ h =
-    let p = first-passed (λ n. (n, b)) (Carried b (wideChanges m) b) (0, b′) (λ o. o .0) (λ n. refl) (wideNeeds b m) (omega arith) refl h in
-    let r = new-rising m (p .0 .1 .1 .0) in
-    λ kind x y k. pairs-once (kindOf (getD m 0 0)) (newMask m) kind x y k (names m 2) (names m 3) (r .0) (r .1)
+    let p = first-passed (λ n. (n, b)) (Carried b (changes (widePrevious m) (wideNew m)) b) (0, b′) (λ o. o .0) (λ n. refl) (wideNeeds b m) (omega arith) refl h in
+    let r = half-rising m 1 (omega arith) (p .0 .1 .1 .0) in
+    λ kind x y k. pairs-once (kindOf (kindIn m)) (maskIn m 1) kind x y k (names m 2) (names m 3) (r .0) (r .1)

@@ -12,7 +12,7 @@ use Rattle.index.specs.declared.Kind.{Kind}
 use Rattle.index.specs.declared.Kind.the-variants.{Membership, Permission, Filter}
 use Rattle.index.specs.Letters.{letterCount}
 use Rattle.index.specs.Block.{size, records, countFrom, count}
-use Rattle.index.specs.Message.{Half, Change, taken, added}
+use Rattle.index.specs.Message.{changes, Half, Change, taken, added}
 use Rattle.index.specs.Message.Change.{take, add}
 use Rattle.index.specs.Numbers.{Each}
 use Rattle.index.specs.Calls.{Makes, makeNeeds}
@@ -86,13 +86,13 @@ module _ (kind : Kind) (x y k : ℕ) where
   up-adds [] = refl
   up-adds (h ∷ hs) = omega (arith, up-adds hs)
 
-  downs : (hs gs : List Half) → sum (down kind x y k) (map take hs ++ map add gs) ≡ movesOf hs kind x y k
-  unfolding taken movesOf
+  downs : (hs gs : List Half) → sum (down kind x y k) (changes hs gs) ≡ movesOf hs kind x y k
+  unfolding changes taken movesOf
   downs [] gs = down-adds gs
   downs (h ∷ hs) gs = omega (arith, downs hs gs)
 
-  ups : (hs gs : List Half) → sum (up kind x y k) (map take hs ++ map add gs) ≡ movesOf gs kind x y k
-  unfolding added
+  ups : (hs gs : List Half) → sum (up kind x y k) (changes hs gs) ≡ movesOf gs kind x y k
+  unfolding changes added
   ups [] gs = up-adds gs
   ups (h ∷ hs) gs = omega (arith, ups hs gs)
 

@@ -6,7 +6,7 @@ use mathlib.Core.Logic.{⊎-elim}
 use native.Mathlib.Omega.{arith}
 use lib.ListN.{getD}
 use Rattle.index.specs.declared.Kind.{Kind}
-use Rattle.index.specs.Letters.{letterCount, lettersOf}
+use Rattle.index.specs.Letters.{letterCount}
 use Rattle.index.specs.Block.{records, place, key, id, countAt, Good}
 use Rattle.index.specs.work.Bytes.{Spliced}
 use Rattle.index.specs.work.Checks.{Counted, Record}
@@ -17,7 +17,8 @@ use Rattle.index.specs.work.Edits.{bit, Recounted, NewRecord, Ready}
 use Rattle.index.proofs.laws.block.Bytes.{number-below, count-out, inside-wide}
 use Rattle.index.proofs.laws.message.Changes.{old-one, old-none, new-one, new-none, changed-records, changed-is}
 use Rattle.index.proofs.laws.block.Checked.{header-of}
-use Rattle.index.proofs.laws.message.HalfLetters.{bit-zero, no-letter, some-letter, masked-byte, halfOf, lessOf, moreOf, change-own, more-none}
+use Rattle.index.proofs.laws.message.HalfLetters.{halfOf, lessOf, moreOf, change-own, more-none}
+use Rattle.index.proofs.laws.block.MayHave.{bit-zero, not-in, some-letter, below}
 use Rattle.index.proofs.laws.Range.{lt-or-le}
 use Rattle.index.proofs.laws.block.Splice.{good-record}
 use Rattle.index.proofs.laws.block.SpliceThen.{spliced-then}
@@ -91,15 +92,16 @@ module _ (h : Half) {b b′ : List ℕ} {j : ℕ} (g : Good b) (bytes : (t : ℕ
   unfolding Masked
   inserted-is r gap s w =
       let masked = r .masked in
-      let some = some-letter (h .mask) (masked .0) (masked-byte (h .kind) (h .mask) (masked .1)) in
+      let (k₀, in₀) = some-letter (h .mask) (masked .0) in
+      let l₀ = below (h .kind) k₀ (masked .1 k₀ in₀) in
       let new : Record b′ (h .kind) j =
       record {
         key-below = rw (w .new-key) (r .key-below);
         id-below = rw (w .new-id) (r .id-below);
-        counted = (some .0, some .1, omega (arith, w .counts (some .0) (some .1), some .2));
+        counted = (k₀, l₀, omega (arith, w .counts k₀ l₀, in₀));
         allowed =
             λ k l.
-            ⊎-elim (λ q. w .counts k q ∙ no-letter (h .mask) (lettersOf (h .kind)) k (masked .1) l) (λ q. count-out b′ j k q)
+            ⊎-elim (λ q. w .counts k q ∙ not-in (h .kind) (h .mask) (masked .1) k l) (λ q. count-out b′ j k q)
             (lt-or-le k letterCount);
       } in
       changed-is g (spliced-then s (w .rest)) bytes (old-none gap) (new-one new (w .new-key) (w .new-id)) (add h)

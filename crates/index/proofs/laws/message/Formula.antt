@@ -11,7 +11,8 @@ use Rattle.index.specs.Block.{NetAt, OneStatement, formula}
 use Rattle.index.specs.Message.{Half, Changed, ownCount}
 use Rattle.index.specs.Message.Change.{add}
 use Rattle.index.specs.work.Places.{At}
-use Rattle.index.proofs.laws.message.HalfLetters.{bit-zero, change-own}
+use Rattle.index.proofs.laws.block.MayHave.{bit-zero}
+use Rattle.index.proofs.laws.message.HalfLetters.{change-own}
 use Rattle.index.proofs.laws.block.Records.{count-at}
 use Rattle.index.proofs.laws.Tests.{both, all, all-at}
 

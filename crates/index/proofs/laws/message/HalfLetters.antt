@@ -1,45 +1,18 @@
--- The letters of a mask, and the record that a half names.
-use Prim.Native.Nat.{ℕ, _-_, _/_, _%_, _^_, _<_, _≤_}
+-- The record that a half names, and its letters that go down or up.
+use Prim.Native.Nat.{ℕ, _/_, _%_, _^_}
 use mathlib.Core.Path.{_≡_, refl, sym, ap, _∙_}
 use mathlib.Core.Bool.{Bool, true, false, cond, _&&_}
 use mathlib.Core.Logic.{_⊎_, inl, inr}
 use native.Mathlib.Decide.{ℕ-discrete}
-use native.Mathlib.Nat.{zero-div, div-eq-of-lt, pow-le-pow-right}
-use native.Mathlib.Omega.{arith}
 use borrow.Author.Tests.{eqb-true, eq-eqb}
 use lib.Dec.{eqb}
 use Rattle.index.specs.declared.Kind.{Kind}
 use Rattle.index.specs.declared.Kind.the-variants.{Membership, Permission, Filter}
-use Rattle.index.specs.Letters.{letterCount, lettersOf}
+use Rattle.index.specs.Letters.{mayHave}
 use Rattle.index.specs.Message.{kindOf, kindNumber, Half, Masked, Change, moves, taken, added}
 use Rattle.index.specs.Message.Change.{take, add}
 use Rattle.index.specs.work.Edits.{bit}
-use Rattle.index.proofs.laws.Tests.{all-at, some, some-at}
-
--- ---- masks
-
-pub bit-zero : (k : ℕ) → bit 0 k ≡ 0
-bit-zero k = rw (zero-div (2 ^ k))
-
--- A mask below 2 ^ n has no letter from n on.
-pub no-letter : (mask n k : ℕ) → mask < 2 ^ n → n ≤ k → bit mask k ≡ 0
-no-letter mask n k l h =
-    let w : 2 ^ n ≤ 2 ^ k = pow-le-pow-right (omega arith) h in
-    let e : mask / 2 ^ k ≡ 0 = div-eq-of-lt (omega arith) in
-    rw e
-
--- It is computed at every mask.
-pub some-letter : (mask : ℕ) → 0 < mask → mask < 2 ^ letterCount → (k : ℕ) × (k < letterCount) × (bit mask k ≡ 1)
-some-letter mask z l =
-    let r =
-    some-at (λ k. eqb (bit mask k) 1) 0 letterCount (all-at (λ n. some (λ k. eqb (bit n k) 1) 0 letterCount) 1 (2 ^ letterCount - 1) refl mask z (omega arith)) in
-    (r .0, omega (arith, r .1), eqb-true _ _ (r .2))
-
-pub masked-byte : (kind : Kind) (mask : ℕ) → mask < 2 ^ lettersOf kind → mask < 2 ^ letterCount
-unfolding lettersOf
-masked-byte Membership mask l = omega arith
-masked-byte Permission mask l = l
-masked-byte Filter mask l = omega arith
+use Rattle.index.proofs.laws.block.MayHave.{bit-zero, not-in}
 
 -- ---- the record that a half names
 
@@ -110,7 +83,7 @@ unfolding taken added
 change-own (take h) k = (moves-own h k, sym (bit-zero k))
 change-own (add h) k = (sym (bit-zero k), moves-own h k)
 
-pub more-none : (c : Change) → Masked (halfOf c) → (k : ℕ) → lettersOf (halfOf c .kind) ≤ k → bit (moreOf c) k ≡ 0
+pub more-none : (c : Change) → Masked (halfOf c) → (k : ℕ) → mayHave (halfOf c .kind) k ≡ false → bit (moreOf c) k ≡ 0
 unfolding Masked
 more-none (take h) m k l = bit-zero k
-more-none (add h) m k l = no-letter (h .mask) (lettersOf (h .kind)) k (m .1) l
+more-none (add h) m k l = not-in (h .kind) (h .mask) (m .1) k l

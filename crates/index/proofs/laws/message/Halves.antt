@@ -1,60 +1,86 @@
--- The halves of a message by its flags, and what its tests say of them.
-use Prim.Native.Nat.{ℕ, _≤_}
-use mathlib.Core.Path.{_≡_}
+-- The halves of a message, half 0 and half 1, and what its tests say of them.
+use Prim.Native.Nat.{ℕ, zero, suc, _<_, _≤_}
+use mathlib.Core.Path.{_≡_, sym, _∙_}
+use mathlib.Core.Bool.{Bool, true, false}
 use mathlib.Core.List.{List, [], _∷_, _++_}
 use mathlib.Core.Logic.{_⊎_, inl, inr, ⊎-elim}
 use native.Mathlib.Omega.{arith}
 use Rattle.index.specs.Block.{Sized}
 use Rattle.index.specs.Numbers.{Answers, Each}
-use Rattle.index.specs.Message.{flags, Half, halfAt, previous, new, WellFormed, Named, Masked, changes}
+use Rattle.index.specs.Message.{Half, halfCount, flags, present, halfAt, halves, previous, new, WellFormed, Named, Masked, changes}
 use Rattle.index.specs.Message.Change.{take, add}
 use Rattle.index.specs.Calls.{blockNeeds, messageNeeds}
+use Rattle.index.specs.work.Checks.{Says}
 use Rattle.index.specs.work.Edits.{Ready, Tested}
+use Rattle.index.proofs.laws.Answer.{says-same}
 use Rattle.index.proofs.laws.Firsts.{All, passed, answers-next}
 use Rattle.index.proofs.laws.Range.{lt-or-le}
 
+-- What holds of half 0 and of half 1 holds of each.
+pub each-half : (P : ℕ → Type 0) → P 0 → P 1 → (h : ℕ) → h < halfCount → P h
+each-half P p q zero l = p
+each-half P p q (suc zero) l = q
+each-half P p q (suc (suc h)) l = absurd (omega arith)
+
+-- What holds of each in two lists, and in both together.
+module _ (P : Half → Type 0) where
+  pub each-join : (hs gs : List Half) → Each P hs → Each P gs → Each P (hs ++ gs)
+  each-join [] gs p q = q
+  each-join (h ∷ hs) gs p q = (p .0, each-join hs gs (p .1) q)
+
+  pub each-part : (hs gs : List Half) → Each P (hs ++ gs) → Each P hs × Each P gs
+  each-part [] gs p = (tt, p)
+  each-part (h ∷ hs) gs p = let q = each-part hs gs (p .1) in ((p .0, q .0), q .1)
+
+pub differ : true ≡ false → ⊥
+differ e = let z : _≡_ {A = ℕ} 0 1 = cc in omega arith
+
 module _ (m : List ℕ) where
-  pub changes-previous : flags m ≡ 1 → changes m ≡ take (halfAt m 2) ∷ []
-  unfolding changes previous new
-  changes-previous e = rw e
+  pub there : (h : ℕ) → present m h ≡ true → halves m h ≡ halfAt m h ∷ []
+  unfolding halves
+  there h e = rw e
 
-  pub changes-new : flags m ≡ 2 → changes m ≡ add (halfAt m 7) ∷ []
-  unfolding changes previous new
-  changes-new e = rw e
+  pub not-there : (h : ℕ) → present m h ≡ false → halves m h ≡ []
+  unfolding halves
+  not-there h e = rw e
 
-  pub changes-both : flags m ≡ 3 → changes m ≡ take (halfAt m 2) ∷ add (halfAt m 7) ∷ []
-  unfolding changes previous new
-  changes-both e = rw e
+  -- The test of a half that is present is the test of each.
+  pub each-says : (P : Half → Type 0) (h : ℕ) {half : Half} (t : Bool) → present m h ≡ true → half ≡ halfAt m h → Says (P half) t
+      → Says (Each P (halves m h)) t
+  each-says P h t e q s = says-same t (λ p. rw (there h e, ← q) (p, tt)) (λ all. let a = rw (there h e) at all in rw q (a .0)) s
 
-  -- What holds of each half that is there.
-  module _ (P : Half → Type 0) (some : (1 ≤ flags m) × (flags m ≤ 3)) where
-    abbrev Both : Type 0
-    Both = ((flags m ≡ 2 → ⊥) → P (halfAt m 2)) × ((flags m ≡ 1 → ⊥) → P (halfAt m 7))
-
-    is : (flags m ≡ 1) ⊎ (flags m ≡ 2) ⊎ (flags m ≡ 3)
-    is =
-        ⊎-elim (λ l. inl (omega arith))
-        (λ l. ⊎-elim (λ k. inr (inl (omega arith))) (λ k. inr (inr (omega arith))) (lt-or-le (flags m) 3))
+  -- "flags (1 previous present, 2 new present, 3 both)", in these words.
+  module _ (some : (1 ≤ flags m) × (flags m ≤ 3)) where
+    pub flags-say : ((flags m ≡ 1) × (present m 0 ≡ true) × (present m 1 ≡ false))
+        ⊎ ((flags m ≡ 2) × (present m 0 ≡ false) × (present m 1 ≡ true))
+        ⊎ ((flags m ≡ 3) × (present m 0 ≡ true) × (present m 1 ≡ true))
+    unfolding present
+    flags-say =
+        ⊎-elim (λ l. let e : flags m ≡ 1 = omega arith in inl (e, rw e, rw e))
+        (λ l.
+        ⊎-elim (λ k. let e : flags m ≡ 2 = omega arith in inr (inl (e, rw e, rw e)))
+        (λ k. let e : flags m ≡ 3 = omega arith in inr (inr (e, rw e, rw e)))
+        (lt-or-le (flags m) 3))
         (lt-or-le (flags m) 2)
 
-    pub each-of : Both → Each P (previous m ++ new m)
-    unfolding previous new
-    each-of both =
-        ⊎-elim (λ e. let p = both .0 (λ z. omega arith) in rw e (p, tt))
-        (⊎-elim (λ e. let p = both .1 (λ z. omega arith) in rw e (p, tt))
-        (λ e.
-        let p = both .0 (λ z. omega arith) in
-        let q = both .1 (λ z. omega arith) in
-        rw e (p, (q, tt))))
-        is
+    pub previous-alone : present m 1 ≡ false → present m 0 ≡ true
+    previous-alone n = ⊎-elim (λ p. p .1) (⊎-elim (λ p. absurd (differ (sym (p .2) ∙ n))) (λ p. p .1)) flags-say
 
-    pub of-each : Each P (previous m ++ new m) → Both
-    unfolding previous new
-    of-each all =
-        ⊎-elim (λ e. let p = rw e at all in (λ _. p .0, λ n. absurd (n e)))
-        (⊎-elim (λ e. let p = rw e at all in (λ n. absurd (n e), λ _. p .0))
-        (λ e. let p = rw e at all in (λ _. p .0, λ _. p .1 .0)))
-        is
+    pub new-alone : present m 0 ≡ false → present m 1 ≡ true
+    new-alone n = ⊎-elim (λ p. absurd (differ (sym (p .1) ∙ n))) (⊎-elim (λ p. p .2) (λ p. p .2)) flags-say
+
+  pub changes-previous : present m 0 ≡ true → present m 1 ≡ false → changes (previous m) (new m) ≡ take (halfAt m 0) ∷ []
+  unfolding changes
+  changes-previous e n = rw (there 0 e, not-there 1 n)
+
+  pub changes-new : present m 0 ≡ false → present m 1 ≡ true → changes (previous m) (new m) ≡ add (halfAt m 1) ∷ []
+  unfolding changes
+  changes-new n e = rw (not-there 0 n, there 1 e)
+
+  pub changes-both : present m 0 ≡ true → present m 1 ≡ true
+      → changes (previous m) (new m) ≡ take (halfAt m 0) ∷ add (halfAt m 1) ∷ []
+  unfolding changes
+  changes-both e f = rw (there 0 e, there 1 f)
 
 -- ---- the tests
 
@@ -81,13 +107,14 @@ module _ (b m : List ℕ) {r : ℕ} (e : r ≡ 0) (a : Answers (messageNeeds b m
   unfolding messageNeeds blockNeeds Sized Named
   message-tested =
       let p = message-passed in
-      let w = p .1 .1 .0 in
-      let named = of-each m Named (w .some-half) (p .1 .1 .1 .0) in
-      let masked = of-each m Masked (w .some-half) (p .1 .1 .1 .1 .0) in
-      let ready : (h : Half) → Named h → Masked h → Ready h b =
-      λ h n k. record { short = p .0 .1; good = p .1 .0; key-below = n .0; id-below = n .1; masked = k } in
+      let named = each-part Named (previous m) (new m) (p .1 .1 .1 .0) in
+      let masked = each-part Masked (previous m) (new m) (p .1 .1 .1 .1 .0) in
+      let ready : (h : ℕ) → Each Named (halves m h) → Each Masked (halves m h) → present m h ≡ true → Ready (halfAt m h) b =
+      λ h n k e.
+      let n′ = rw (there m h e) at n in
+      let k′ = rw (there m h e) at k in
+      record { short = p .0 .1; good = p .1 .0; key-below = n′ .0 .0; id-below = n′ .0 .1; masked = k′ .0 } in
       record {
-        formed = w;
-        previous = λ ne. ready (halfAt m 2) (named .0 ne) (masked .0 ne);
-        new = λ ne. ready (halfAt m 7) (named .1 ne) (masked .1 ne);
+        formed = p .1 .1 .0;
+        ready = each-half (λ h. present m h ≡ true → Ready (halfAt m h) b) (ready 0 (named .0) (masked .0)) (ready 1 (named .1) (masked .1));
       }

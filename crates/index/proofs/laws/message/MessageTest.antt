@@ -1,22 +1,24 @@
 -- A test of an accepted message that computes: where it says yes, the message leaves the last of the blocks given.
 use Prim.Native.Nat.{ℕ, _+_, _/_, _%_, _^_, _<_, _≤_}
 use mathlib.Core.Path.{_≡_, refl, sym, _∙_}
-use mathlib.Core.Bool.{Bool, true, false, cond, _&&_}
+use mathlib.Core.Bool.{Bool, true, false, cond, _&&_, _||_}
 use mathlib.Core.List.{List, [], _∷_, _++_}
 use mathlib.Core.Logic.{_⊎_, inl, inr}
 use native.Mathlib.Omega.{arith}
-use borrow.Author.Tests.{eqb-true, ltb-true, leb-true, eq-eqb}
+use borrow.Author.Tests.{eqb-true, ltb-true, leb-true}
 use lib.Dec.{eqb, ltb, leb}
 use lib.ListN.{length, getD}
-use Rattle.index.specs.Letters.{letterCount, lettersOf}
+use Rattle.index.specs.Letters.{letterCount, mayHave}
 use Rattle.index.specs.Block.{greatestCount, nameCount, headerLength, greatestLength, Sized, Good, records, room}
-use Rattle.index.specs.Message.{IsKind, Half, flags, Blank, WellFormed, Named, Masked, Change, changes, ownCount, changeNeeds, Changed, Carried, previous, new}
+use Rattle.index.specs.Message.{IsKind, Half, messageLength, halfLength, halfPlace, kindIn, flags, present, Blank, WellFormed, Named, Masked, Change, changes, ownCount, changeNeeds, Changed, Carried, previous, new}
 use Rattle.index.specs.Message.Change.{take, add}
 use Rattle.index.specs.Numbers.{Each}
 use Rattle.index.specs.Calls.{Message, messageNeeds, blockNeeds}
 use Rattle.index.specs.work.Edits.{bit}
 use Rattle.index.proofs.laws.Tests.{both, all, all-at, some, some-at}
+use Rattle.index.proofs.laws.block.MayHave.{AllMay, all-may}
 use Rattle.index.proofs.laws.block.GoodTest.{goodTest, good-test}
+use Rattle.index.proofs.laws.message.Halves.{each-half}
 use Rattle.index.proofs.laws.message.ChangeTest.{changeTest, change-test}
 
 -- ---- what a change needs
@@ -74,42 +76,50 @@ carry-test b₀ (c ∷ cs) b (d ∷ ds) e =
 
 -- ---- the message itself
 
-abbrev blankTest : List ℕ → ℕ → ℕ → Bool
-blankTest m flag i = cond (eqb (flags m) flag) (all (λ j. eqb (getD m j 0) 0) i 5) true
+abbrev blankTest : List ℕ → ℕ → Bool
+blankTest m h = cond (present m h) true (all (λ j. eqb (getD m (halfPlace h + j) 0) 0) 0 halfLength)
 
-blank-test : (m : List ℕ) (flag i : ℕ) → blankTest m flag i ≡ true → flags m ≡ flag → Blank m i
+blank-test : (m : List ℕ) (h : ℕ) → blankTest m h ≡ true → present m h ≡ false → Blank m h
 unfolding Blank
-blank-test m flag i e f j l h =
-    eqb-true _ _ (all-at (λ j. eqb (getD m j 0) 0) i 5 (rw (eq-eqb (flags m) flag f) at e) j l h)
+blank-test m h e f j l = eqb-true _ _ (all-at (λ j. eqb (getD m (halfPlace h + j) 0) 0) 0 halfLength (rw f at e) j (omega arith) l)
 
 abbrev formTest : List ℕ → Bool
 formTest m =
-    eqb (length m) 12
-    && (leb 1 (getD m 0 0)
-    && (leb (getD m 0 0) 3 && (leb 1 (flags m) && (leb (flags m) 3 && (blankTest m 2 2 && blankTest m 1 7)))))
+    eqb (length m) messageLength
+    && (leb 1 (kindIn m)
+    && (leb (kindIn m) 3 && (leb 1 (flags m) && (leb (flags m) 3 && (blankTest m 0 && blankTest m 1)))))
 
 form-test : (m : List ℕ) → formTest m ≡ true → WellFormed m
 unfolding IsKind
 form-test m e =
-    let p = both (eqb (length m) 12) _ e in
-    let q = both (leb 1 (getD m 0 0)) _ (p .1) in
-    let r = both (leb (getD m 0 0) 3) _ (q .1) in
+    let p = both (eqb (length m) messageLength) _ e in
+    let q = both (leb 1 (kindIn m)) _ (p .1) in
+    let r = both (leb (kindIn m) 3) _ (q .1) in
     let s = both (leb 1 (flags m)) _ (r .1) in
     let t = both (leb (flags m) 3) _ (s .1) in
-    let u = both (blankTest m 2 2) (blankTest m 1 7) (t .1) in
+    let u = both (blankTest m 0) (blankTest m 1) (t .1) in
     record {
       twelve = eqb-true _ _ (p .0);
       kind = (leb-true _ _ (q .0), leb-true _ _ (r .0));
       some-half = (leb-true _ _ (s .0), leb-true _ _ (t .0));
-      no-previous = blank-test m 2 2 (u .0);
-      no-new = blank-test m 1 7 (u .1);
+      absent = each-half (λ h. present m h ≡ false → Blank m h) (blank-test m 0 (u .0)) (blank-test m 1 (u .1));
     }
+
+abbrev pub lettersTest : Half → Bool
+lettersTest h = ltb (h .mask) (2 ^ letterCount) && all (λ k. ltb (bit (h .mask) k) 1 || mayHave (h .kind) k) 0 letterCount
+
+pub letters-test : (h : Half) → lettersTest h ≡ true → AllMay (h .kind) (h .mask)
+letters-test h e =
+    let may : ℕ → Bool = λ k. ltb (bit (h .mask) k) 1 || mayHave (h .kind) k in
+    let p = both (ltb (h .mask) (2 ^ letterCount)) (all may 0 letterCount) e in
+    all-may (h .kind) (h .mask) (ltb-true _ _ (p .0))
+    (λ k l i. let q = all-at may 0 letterCount (p .1) k (omega arith) l in rw i at q)
 
 abbrev halvesTest : List Half → Bool
 halvesTest [] = true
 halvesTest (h ∷ hs) =
     ltb (h .key) nameCount
-    && (ltb (h .id) nameCount && (ltb 0 (h .mask) && (ltb (h .mask) (2 ^ lettersOf (h .kind)) && halvesTest hs)))
+    && (ltb (h .id) nameCount && (ltb 0 (h .mask) && (lettersTest h && halvesTest hs)))
 
 halves-test : (hs : List Half) → halvesTest hs ≡ true → Each Named hs × Each Masked hs
 unfolding Named Masked
@@ -118,15 +128,15 @@ halves-test (h ∷ hs) e =
     let p = both (ltb (h .key) nameCount) _ e in
     let q = both (ltb (h .id) nameCount) _ (p .1) in
     let r = both (ltb 0 (h .mask)) _ (q .1) in
-    let s = both (ltb (h .mask) (2 ^ lettersOf (h .kind))) (halvesTest hs) (r .1) in
+    let s = both (lettersTest h) (halvesTest hs) (r .1) in
     let w = halves-test hs (s .1) in
-    (((ltb-true _ _ (p .0), ltb-true _ _ (q .0)), w .0), ((ltb-true _ _ (r .0), ltb-true _ _ (s .0)), w .1))
+    (((ltb-true _ _ (p .0), ltb-true _ _ (q .0)), w .0), ((ltb-true _ _ (r .0), letters-test h (s .0)), w .1))
 
 abbrev pub messageTest : List ℕ → List ℕ → List (List ℕ) → Bool
 messageTest b m ds =
     leb headerLength (length b)
     && (leb (length b) greatestLength
-    && (goodTest b && (formTest m && (halvesTest (previous m ++ new m) && carryTest (changes m) b ds))))
+    && (goodTest b && (formTest m && (halvesTest (previous m ++ new m) && carryTest (changes (previous m) (new m)) b ds))))
 
 pub message-test : (b m : List ℕ) (ds : List (List ℕ)) → messageTest b m ds ≡ true → Message b m (0, lastOf b ds)
 unfolding Message messageNeeds blockNeeds Sized
@@ -139,5 +149,5 @@ message-test b m ds e =
     let h = halves-test (previous m ++ new m) (t .0) in
     inr (
       (leb-true _ _ (p .0), leb-true _ _ (q .0)),
-      inr (good-test b (r .0), inr (form-test m (s .0), inr (h .0, inr (h .1, carry-test b (changes m) b ds (t .1))))),
+      inr (good-test b (r .0), inr (form-test m (s .0), inr (h .0, inr (h .1, carry-test b (changes (previous m) (new m)) b ds (t .1))))),
     )

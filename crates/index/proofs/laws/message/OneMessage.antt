@@ -3,8 +3,8 @@ use Prim.Native.Nat.{ℕ, _<_}
 use native.Mathlib.Omega.{arith}
 use mathlib.Core.Path.{_≡_, sym, _∙_}
 use mathlib.Core.List.{List, [], _∷_}
-use Rattle.index.specs.Message.{Change, Changed, Carried, changeNeeds, steps, changes, changesIn}
-use Rattle.index.specs.Wide.{wideChanges}
+use Rattle.index.specs.Message.{previous, new, Change, Changed, Carried, changeNeeds, changes, packedChanges}
+use Rattle.index.specs.Wide.{widePrevious, wideNew}
 use Rattle.index.specs.Calls.{Message, Wide, CarriesOut, blockNeeds, messageNeeds, wideNeeds, listNeeds}
 use Rattle.index.specs.History.{Sent, previousOf, newOf, Outcome}
 use Rattle.index.specs.History.Sent.{plain, wide}
@@ -26,11 +26,11 @@ one-run b₀ (c ∷ cs) b o o′ p q =
 
 pub one-message : (b m : List ℕ) (o o′ : ℕ × List ℕ) → Message b m o → Message b m o′ → o ≡ o′
 unfolding Message
-one-message b m = one-first (λ n. (n, b)) (messageNeeds b m) (Carried b (changes m) b) (one-run b (changes m) b)
+one-message b m = one-first (λ n. (n, b)) (messageNeeds b m) (Carried b (changes (previous m) (new m)) b) (one-run b (changes (previous m) (new m)) b)
 
 pub one-list : (b cs : List ℕ) (o o′ : ℕ × List ℕ) → CarriesOut b cs o → CarriesOut b cs o′ → o ≡ o′
 unfolding CarriesOut
-one-list b cs = one-first (λ n. (n, b)) (listNeeds b cs) (Carried b (changesIn cs) b) (one-run b (changesIn cs) b)
+one-list b cs = one-first (λ n. (n, b)) (listNeeds b cs) (Carried b (packedChanges cs) b) (one-run b (packedChanges cs) b)
 
 pub changes-positive : (c : Change) (b : List ℕ) → Positive (changeNeeds c b)
 unfolding changeNeeds
@@ -50,18 +50,18 @@ module _ (P : List ℕ → List Change → List ℕ → ℕ × List ℕ → Type
 
 -- A message is refused, and the block is what it was, or its changes are run.
 pub message-cases : (b m : List ℕ) (P : ℕ × List ℕ → Type 0) → ((n : ℕ) → 0 < n → P (n, b))
-    → ((o : ℕ × List ℕ) → Carried b (changes m) b o → P o) → (o : ℕ × List ℕ) → Message b m o → P o
+    → ((o : ℕ × List ℕ) → Carried b (changes (previous m) (new m)) b o → P o) → (o : ℕ × List ℕ) → Message b m o → P o
 unfolding Message messageNeeds blockNeeds
-message-cases b m P u v = first-cases P (λ n. 0 < n) (λ n. (n, b)) (Carried b (changes m) b) u v (messageNeeds b m) (omega arith)
+message-cases b m P u v = first-cases P (λ n. 0 < n) (λ n. (n, b)) (Carried b (changes (previous m) (new m)) b) u v (messageNeeds b m) (omega arith)
 
 -- The same of whatever is sent.
 pub sent-cases : (b : List ℕ) (m : Sent) (P : ℕ × List ℕ → Type 0) → ((n : ℕ) → 0 < n → P (n, b))
-    → ((o : ℕ × List ℕ) → Carried b (steps (previousOf m) (newOf m)) b o → P o) → (o : ℕ × List ℕ) → Outcome b m o → P o
-unfolding changes wideChanges Wide wideNeeds blockNeeds
+    → ((o : ℕ × List ℕ) → Carried b (changes (previousOf m) (newOf m)) b o → P o) → (o : ℕ × List ℕ) → Outcome b m o → P o
+unfolding Wide wideNeeds blockNeeds
 sent-cases b (plain m) P u v = message-cases b m P u v
-sent-cases b (wide m) P u v = first-cases P (λ n. 0 < n) (λ n. (n, b)) (Carried b (wideChanges m) b) u v (wideNeeds b m) (omega arith)
+sent-cases b (wide m) P u v = first-cases P (λ n. 0 < n) (λ n. (n, b)) (Carried b (changes (widePrevious m) (wideNew m)) b) u v (wideNeeds b m) (omega arith)
 
 pub one-sent : (b : List ℕ) (m : Sent) (o o′ : ℕ × List ℕ) → Outcome b m o → Outcome b m o′ → o ≡ o′
 unfolding Wide
 one-sent b (plain m) = one-message b m
-one-sent b (wide m) = one-first (λ n. (n, b)) (wideNeeds b m) (Carried b (wideChanges m) b) (one-run b (wideChanges m) b)
+one-sent b (wide m) = one-first (λ n. (n, b)) (wideNeeds b m) (Carried b (changes (widePrevious m) (wideNew m)) b) (one-run b (changes (widePrevious m) (wideNew m)) b)

@@ -12,13 +12,14 @@ use Rattle.index.specs.declared.Kind.{Kind}
 use Rattle.index.specs.Letters.{letterCount}
 use Rattle.index.specs.Block.{headerLength, recordLength, count, records, room, Good}
 use Rattle.index.specs.Numbers.{Answers}
-use Rattle.index.specs.Message.{Half, Change, Changed, taken, added, ownCount, changeNeeds, Carried, kindIn, halfIn, changeIn, changesIn}
+use Rattle.index.specs.Message.{Half, Change, Changed, taken, added, ownCount, changeNeeds, Carried, packedKind, packedHalf, packedChange, packedChanges}
 use Rattle.index.specs.Message.Change.{take, add}
 use Rattle.index.specs.work.Edits.{Ready, Step, Prepared, Went}
 use Rattle.index.specs.work.Edits.Went.{nothing, next}
 use Rattle.index.proofs.laws.block.Bytes.{count-small}
 use Rattle.index.proofs.laws.block.Canonical.{canonical}
-use Rattle.index.proofs.laws.message.HalfLetters.{bit-zero, halfOf, change-own}
+use Rattle.index.proofs.laws.block.MayHave.{bit-zero}
+use Rattle.index.proofs.laws.message.HalfLetters.{halfOf, change-own}
 use Rattle.index.proofs.laws.Firsts.{All, first-map, first-all, first-sure, first-passed, first-refused, refuses}
 use Rattle.index.proofs.laws.message.OneMessage.{changes-positive}
 use Rattle.index.proofs.laws.block.Records.{of-records, where-is, count-at, count-none}
@@ -121,12 +122,12 @@ undone c {b} {b₁} {b₂} {r} g s t =
 -- ---- the changes of a list
 
 -- The numbers of a change and of the one that undoes it.
-pub same-half : (m n : ℕ) → m / 2 ≡ n / 2 → halfIn m ≡ halfIn n
-unfolding halfIn kindIn
+pub same-half : (m n : ℕ) → m / 2 ≡ n / 2 → packedHalf m ≡ packedHalf n
+unfolding packedHalf packedKind
 same-half m n e = rw e
 
-opposite : (m n : ℕ) → m / 2 ≡ n / 2 → m % 2 + n % 2 ≡ 1 → changeIn m ≡ back (changeIn n)
-unfolding changeIn
+opposite : (m n : ℕ) → m / 2 ≡ n / 2 → m % 2 + n % 2 ≡ 1 → packedChange m ≡ back (packedChange n)
+unfolding packedChange
 opposite m n e f =
     elim (ℕ-discrete (n % 2) 0) [
       | yes z ↦ let o : m % 2 ≡ 1 = omega arith in rw (z, o, same-half m n e)
@@ -138,41 +139,41 @@ opposite m n e f =
 
 module _ {b₀ cs : List ℕ} where
   -- What comes of the rest of the list comes of the whole.
-  went-on : {i : ℕ} {b : List ℕ} (o : ℕ × List ℕ) → Went b₀ cs i b → i ≤ length cs → Carried b₀ (changesIn (drop i cs)) b o
-      → Carried b₀ (changesIn cs) b₀ o
+  went-on : {i : ℕ} {b : List ℕ} (o : ℕ × List ℕ) → Went b₀ cs i b → i ≤ length cs → Carried b₀ (packedChanges (drop i cs)) b o
+      → Carried b₀ (packedChanges cs) b₀ o
   unfolding Carried
   went-on o nothing l p = p
   went-on o (next {i} {b} {b′} w _ s) l p =
       let d = step-done s refl in
       went-on o w (omega arith)
-      (rw (drop-cons cs i 0 (omega arith)) (first-all (λ n. (n, b₀)) _ o (changeNeeds (changeIn (getD cs i 0)) b) (d .0) (b′, d .1, p)))
+      (rw (drop-cons cs i 0 (omega arith)) (first-all (λ n. (n, b₀)) _ o (changeNeeds (packedChange (getD cs i 0)) b) (d .0) (b′, d .1, p)))
 
-  pub went-all : {i : ℕ} {b : List ℕ} → Went b₀ cs i b → i ≡ length cs → Carried b₀ (changesIn cs) b₀ (0, b)
+  pub went-all : {i : ℕ} {b : List ℕ} → Went b₀ cs i b → i ≡ length cs → Carried b₀ (packedChanges cs) b₀ (0, b)
   unfolding Carried
   went-all {i} {b} w e = went-on (0, b) w (omega arith) (rw (e, drop-length cs) refl)
 
-  pub went-refused : {i r : ℕ} {b b₁ : List ℕ} → Went b₀ cs i b → i < length cs → Step (changeIn (getD cs i 0)) b r b₁ → (r ≡ 0 → ⊥)
-      → Carried b₀ (changesIn cs) b₀ (r, b₀)
+  pub went-refused : {i r : ℕ} {b b₁ : List ℕ} → Went b₀ cs i b → i < length cs → Step (packedChange (getD cs i 0)) b r b₁ → (r ≡ 0 → ⊥)
+      → Carried b₀ (packedChanges cs) b₀ (r, b₀)
   unfolding Carried
   went-refused {i} {r} {b} w l s n =
       went-on (r, b₀) w (omega arith)
-      (rw (drop-cons cs i 0 l) (refuses (λ n. (n, b₀)) _ (changeNeeds (changeIn (getD cs i 0)) b) n (step-refused s n .0)))
+      (rw (drop-cons cs i 0 l) (refuses (λ n. (n, b₀)) _ (changeNeeds (packedChange (getD cs i 0)) b) n (step-refused s n .0)))
 
   -- One more change, and one less.
-  pub went-more : {i r : ℕ} {b b₁ : List ℕ} → Went b₀ cs i b → Ready (halfIn (getD cs i 0)) b → Step (changeIn (getD cs i 0)) b r b₁ → r ≡ 0
+  pub went-more : {i r : ℕ} {b b₁ : List ℕ} → Went b₀ cs i b → Ready (packedHalf (getD cs i 0)) b → Step (packedChange (getD cs i 0)) b r b₁ → r ≡ 0
       → Went b₀ cs (i + 1) b₁
   went-more {i} w q s e = rw add-one (next w q (rw e at s))
 
   went-last : {i : ℕ} {b : List ℕ} → Went b₀ cs (suc i) b
-      → (b₁ : List ℕ) × Went b₀ cs i b₁ × Good b₁ × Step (changeIn (getD cs i 0)) b₁ 0 b
+      → (b₁ : List ℕ) × Went b₀ cs i b₁ × Good b₁ × Step (packedChange (getD cs i 0)) b₁ 0 b
   went-last (next {b} w q s) = (b, w, q .good, s)
 
   pub went-back : {i r : ℕ} {b b₁ : List ℕ} (n : ℕ) → 0 < i → n / 2 ≡ getD cs (i - 1) 0 / 2 → n % 2 + getD cs (i - 1) 0 % 2 ≡ 1
-      → Step (changeIn n) b r b₁ → Went b₀ cs i b → Went b₀ cs (i - 1) b₁
+      → Step (packedChange n) b r b₁ → Went b₀ cs i b → Went b₀ cs (i - 1) b₁
   went-back {i} {b = b} n l e f s w =
       let z : i ≡ suc (i - 1) = omega arith in
       let p = went-last (subst (λ (j : ℕ). Went b₀ cs j b) z w) in
-      rw (undone (changeIn (getD cs (i - 1) 0)) (p .2) (p .3) (rw (opposite n (getD cs (i - 1) 0) e f) at s)) (p .1)
+      rw (undone (packedChange (getD cs (i - 1) 0)) (p .2) (p .3) (rw (opposite n (getD cs (i - 1) 0) e f) at s)) (p .1)
 
   pub went-none : {i : ℕ} {b : List ℕ} → Went b₀ cs i b → i ≡ 0 → b ≡ b₀
   went-none nothing e = refl

@@ -4,7 +4,7 @@ use mathlib.Core.Path.{_≡_, refl, _∙_}
 use mathlib.Core.List.{List}
 use lib.ListN.{length}
 use Rattle.index.specs.Block.{Good}
-use Rattle.index.specs.Message.{changes}
+use Rattle.index.specs.Message.{previous, new, changes}
 use Rattle.index.specs.Calls.{Message}
 use Rattle.index.proofs.laws.message.OneMessage.{run-cases, message-cases}
 
@@ -15,5 +15,5 @@ stays-good b m o h g =
     run-cases (λ _ cs d o. Good d → length d ≡ length b → Good (o .1) × (length (o .1) ≡ length b)) b (λ cs d n l k e. (g, refl))
     (λ d k e. (k, e))
     (λ c cs d d₁ o w p k e. p (w .good) (w .same-length ∙ e))
-    (changes m) b o r g refl)
+    (changes (previous m) (new m)) b o r g refl)
     o h

@@ -18,7 +18,8 @@ use Rattle.index.specs.work.Edits.{bit, Allows, Left, Opens, Recounted, 
 use Rattle.index.proofs.laws.block.Bytes.{count-small}
 use Rattle.index.proofs.laws.message.Changes.{gap-none}
 use Rattle.index.proofs.laws.message.Edited.{recounted-is, removed-is, removed-records, inserted-is}
-use Rattle.index.proofs.laws.message.HalfLetters.{bit-zero, some-letter, masked-byte, change-own}
+use Rattle.index.proofs.laws.message.HalfLetters.{change-own}
+use Rattle.index.proofs.laws.block.MayHave.{bit-zero, some-letter, below}
 use Rattle.index.proofs.laws.Range.{lt-or-le}
 use Rattle.index.proofs.laws.block.Records.{of-records, gap-in, count-at, count-none}
 
@@ -88,9 +89,9 @@ module _ (h : Half) {b : List ℕ} {j : ℕ} (gap : Gap b (h .kind) (h .key) (h 
   pub take-missing : Masked h → Step (take h) b 6 b
   unfolding changeNeeds Masked
   take-missing m =
-      let s = some-letter (h .mask) (m .0) (masked-byte (h .kind) (h .mask) (m .1)) in
+      let (k, e) = some-letter (h .mask) (m .0) in
       record {
-        outcome = inl (λ need. omega (arith, need (s .0) (s .1) (s .2), stands-not (s .0)), refl);
+        outcome = inl (λ need. omega (arith, need k (below (h .kind) k (m .1 k e)) e, stands-not k), refl);
         freed = λ e. absurd (omega arith);
       }
 

@@ -1,12 +1,14 @@
 -- What reading letters and counts tells: the bytes read are what they are written as, or begin it.
-use Prim.Native.Nat.{ℕ, suc, _-_, _≤_}
+use Prim.Native.Nat.{ℕ, suc, _+_, _≤_}
 use mathlib.Core.Path.{_≡_, refl, sym, ap, _∙_}
 use mathlib.Core.Bool.{Bool, true, false, cond, _&&_}
 use mathlib.Core.List.{List, [], _∷_, _++_}
 use lib.ListN.{length, getD}
-use lib.Dec.{eqb, ltb}
+use lib.Dec.{eqb}
 use native.Mathlib.Omega.{arith}
-use borrow.Author.Tests.{le-ltb, eqb-true}
+use borrow.Author.Tests.{eqb-true}
+use Rattle.index.specs.declared.Kind.{Kind}
+use Rattle.index.specs.Letters.{mayHave}
 use Rattle.index.specs.Block.{greatestCount}
 use Rattle.index.specs.Text.{pieceOf, piecesOf}
 use Rattle.index.specs.work.Reading.{digit, readNumber, readCount, readLetter, readCounts}
@@ -58,35 +60,36 @@ letter-reader may l (b ∷ t) = go (may && eqb b l) refl
 
 -- ---- the counts of a record
 
--- counts that a record may have, of the letters ls, of which the first n may stand there
-pub record Fair (n : ℕ) (ls cs : List ℕ) : Type 0 where
+-- counts that a record of the kind may have, of the letters ls, the first of which is letter k
+pub record Fair (kind : Kind) (k : ℕ) (ls cs : List ℕ) : Type 0 where
   pub long : length cs ≡ length ls
-  pub fits : (k : ℕ) → getD cs k 0 ≤ greatestCount
-  pub none : (k : ℕ) → n ≤ k → getD cs k 0 ≡ 0
+  pub fits : (j : ℕ) → getD cs j 0 ≤ greatestCount
+  pub none : (j : ℕ) → mayHave kind (k + j) ≡ false → getD cs j 0 ≡ 0
 
-pub fair-cons : (n l : ℕ) (ls : List ℕ) (c : ℕ) (cs : List ℕ) → c ≤ greatestCount → (ltb 0 n ≡ false → c ≡ 0) → Fair (n - 1) ls cs
-    → Fair n (l ∷ ls) (c ∷ cs)
-fair-cons n l ls c cs h z f = record { long = ap suc (f .long); fits = fits; none = none }
+pub fair-cons : (kind : Kind) (k l : ℕ) (ls : List ℕ) (c : ℕ) (cs : List ℕ) → c ≤ greatestCount → (mayHave kind k ≡ false → c ≡ 0)
+    → Fair kind (k + 1) ls cs → Fair kind k (l ∷ ls) (c ∷ cs)
+fair-cons kind k l ls c cs h z f = record { long = ap suc (f .long); fits = fits; none = none }
   where
-    fits : (k : ℕ) → getD (c ∷ cs) k 0 ≤ greatestCount
+    fits : (j : ℕ) → getD (c ∷ cs) j 0 ≤ greatestCount
     fits ℕ.zero = h
-    fits (suc k) = f .fits k
+    fits (suc j) = f .fits j
 
-    none : (k : ℕ) → n ≤ k → getD (c ∷ cs) k 0 ≡ 0
-    none ℕ.zero p = z (le-ltb 0 n p)
-    none (suc k) p = f .none k (omega arith)
+    none : (j : ℕ) → mayHave kind (k + j) ≡ false → getD (c ∷ cs) j 0 ≡ 0
+    none ℕ.zero p = let e : k + 0 ≡ k = omega arith in z (rw e at p)
+    none (suc j) p = let e : k + suc j ≡ k + 1 + j = omega arith in f .none j (rw e at p)
 
 -- what the letters ls with the counts cs are written as
-abbrev pub Counts : ℕ → List ℕ → List ℕ → List ℕ → Type 0
-Counts n ls cs u = (piecesOf ls cs ≡ u) × Fair n ls cs
+abbrev pub Counts : Kind → ℕ → List ℕ → List ℕ → List ℕ → Type 0
+Counts kind k ls cs u = (piecesOf ls cs ≡ u) × Fair kind k ls cs
 
-pub counts-reader : (n : ℕ) (ls : List ℕ) → Reader (List ℕ) (readCounts n ls) (Counts n ls)
+pub counts-reader : (kind : Kind) (k : ℕ) (ls : List ℕ) → Reader (List ℕ) (readCounts kind k ls) (Counts kind k ls)
 unfolding readCounts piecesOf
-counts-reader n [] t =
-    reader-got (Counts n []) [] (refl, record { long = refl; fits = λ k. omega arith; none = λ k p. refl }) t
-counts-reader n (l ∷ ls) t =
-    reader-then (readLetter (ltb 0 n) l) (Piece (ltb 0 n) l) (Counts n (l ∷ ls)) (letter-reader (ltb 0 n) l) _
+counts-reader kind k [] t =
+    reader-got (Counts kind k []) [] (refl, record { long = refl; fits = λ j. omega arith; none = λ j p. refl }) t
+counts-reader kind k (l ∷ ls) t =
+    reader-then (readLetter (mayHave kind k) l) (Piece (mayHave kind k) l) (Counts kind k (l ∷ ls)) (letter-reader (mayHave kind k) l) _
     (λ c u w.
-    reader-give (readCounts (n - 1) ls) (Counts (n - 1) ls) (λ cs v. Counts n (l ∷ ls) cs (u ++ v)) (counts-reader (n - 1) ls)
-    (λ cs. c ∷ cs) (λ cs v z. ((λ i. w .0 i ++ z .0 i), fair-cons n l ls c cs (w .1) (w .2) (z .1))))
+    reader-give (readCounts kind (k + 1) ls) (Counts kind (k + 1) ls) (λ cs v. Counts kind k (l ∷ ls) cs (u ++ v))
+    (counts-reader kind (k + 1) ls)
+    (λ cs. c ∷ cs) (λ cs v z. ((λ i. w .0 i ++ z .0 i), fair-cons kind k l ls c cs (w .1) (w .2) (z .1))))
     t

@@ -1,13 +1,13 @@
 -- Letters with counts are read as what they are written from.
-use Prim.Native.Nat.{ℕ, suc, _-_, _<_, _≤_}
+use Prim.Native.Nat.{ℕ, suc, _+_, _<_, _≤_}
 use mathlib.Core.Path.{_≡_, refl}
 use mathlib.Core.Bool.{Bool, true, false}
 use mathlib.Core.List.{List, [], _∷_, _++_, append-assoc}
 use lib.ListN.{length, getD}
-use lib.Dec.{ltb}
 use native.Mathlib.Omega.{arith}
-use borrow.Author.Tests.{eq-eqb, ne-eqb, ltb-false}
-use Rattle.index.specs.Letters.{letters}
+use borrow.Author.Tests.{eq-eqb, ne-eqb}
+use Rattle.index.specs.declared.Kind.{Kind}
+use Rattle.index.specs.Letters.{letters, mayHave}
 use Rattle.index.specs.Text.{decimal, pieceOf, piecesOf}
 use Rattle.index.specs.work.Reading.{digit, readCount, readLetter, readCounts}
 use Rattle.index.specs.work.Reading.Parsed.{got}
@@ -82,20 +82,19 @@ all-high : (ls : List ℕ) → Apart ls → All (λ (x : ℕ). 57 < x) ls
 all-high [] a = tt
 all-high (l ∷ ls) a = (omega arith, all-high ls (a .2))
 
-test-zero : (n : ℕ) → ltb 0 n ≡ false → n ≡ 0
-test-zero n e = omega (arith, ltb-false 0 n e)
-
-pub counts-complete : (n : ℕ) (ls cs r : List ℕ) → Apart ls → length cs ≡ length ls → ((k : ℕ) → getD cs k 0 ≤ greatestCount)
-    → ((k : ℕ) → n ≤ k → getD cs k 0 ≡ 0) → first r ≡ 59 → readCounts n ls (piecesOf ls cs ++ r) ≡ got cs r
+pub counts-complete : (kind : Kind) (k : ℕ) (ls cs r : List ℕ) → Apart ls → length cs ≡ length ls → ((j : ℕ) → getD cs j 0 ≤ greatestCount)
+    → ((j : ℕ) → mayHave kind (k + j) ≡ false → getD cs j 0 ≡ 0) → first r ≡ 59 → readCounts kind k ls (piecesOf ls cs ++ r) ≡ got cs r
 unfolding readCounts piecesOf
-counts-complete n [] [] r a e f z h = refl
-counts-complete n [] (c ∷ cs) r a e f z h = absurd (omega arith)
-counts-complete n (l ∷ ls) [] r a e f z h = absurd (omega arith)
-counts-complete n (l ∷ ls) (c ∷ cs) r a e f z h =
+counts-complete kind k [] [] r a e f z h = refl
+counts-complete kind k [] (c ∷ cs) r a e f z h = absurd (omega arith)
+counts-complete kind k (l ∷ ls) [] r a e f z h = absurd (omega arith)
+counts-complete kind k (l ∷ ls) (c ∷ cs) r a e f z h =
+    let here : k + 0 ≡ k = omega arith in
+    let on : (j : ℕ) → k + 1 + j ≡ k + suc j = λ j. omega arith in
     let hi : 57 < first (piecesOf ls cs ++ r) = first-of (λ x. 57 < x) ls cs r (all-high ls (a .2)) (omega arith) in
     let ne : first (piecesOf ls cs ++ r) ≡ l → ⊥ = first-of (λ x. x ≡ l → ⊥) ls cs r (a .1) (omega arith) in
     simp (
       append-assoc,
-      letter-complete (ltb 0 n) l c (piecesOf ls cs ++ r) (λ w. z 0 (omega (arith, test-zero n w))) (f 0) (digit-high _ hi) ne,
-      counts-complete (n - 1) ls cs r (a .2) (omega arith) (λ k. f (suc k)) (λ k q. z (suc k) (omega arith)) h,
+      letter-complete (mayHave kind k) l c (piecesOf ls cs ++ r) (λ w. z 0 (rw here w)) (f 0) (digit-high _ hi) ne,
+      counts-complete kind (k + 1) ls cs r (a .2) (omega arith) (λ j. f (suc j)) (λ j q. z (suc j) (rw (on j) at q)) h,
     )

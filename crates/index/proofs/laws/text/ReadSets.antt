@@ -6,7 +6,7 @@ use lib.ListN.{length, getD, length-append}
 use native.Mathlib.Omega.{arith}
 use borrow.Author.Tests.{lt-ltb}
 use Rattle.index.specs.declared.Kind.{Kind}
-use Rattle.index.specs.Letters.{letterCount, letters, lettersOf}
+use Rattle.index.specs.Letters.{letterCount, letters}
 use Rattle.index.specs.Text.{Entry, decimal, piecesOf, entryText, textOf, IsEntry, IsSet}
 use Rattle.index.specs.work.Reading.{Parsed, andThen, readMark, total, readRecord, readMore, readRecords, parse}
 use Rattle.index.specs.work.Reading.Parsed.{got}
@@ -43,7 +43,7 @@ record-complete kind least e r h l k =
     (simp (
       number-complete least greatestName (e .id) (59 ∷ (piecesOf letters (e .counts) ++ r)) l (omega (arith, h .named)) (omega (arith, h .named)) (digit-high 59 (omega arith)),
       mark-complete,
-      counts-complete (lettersOf kind) letters (e .counts) r letters-apart (h .eight ∙ sym eight-letters) (h .fits) (h .allowed) k,
+      counts-complete kind 0 letters (e .counts) r letters-apart (h .eight ∙ sym eight-letters) (h .fits) (λ j q. let z : 0 + j ≡ j = omega arith in h .allowed j (rw z at q)) k,
       lt-ltb 0 (total (e .counts)) (some-total (e .counts) i g),
     ))
 

@@ -5,10 +5,11 @@ use mathlib.Core.Bool.{Bool, true, false, _&&_}
 use mathlib.Core.List.{List, [], _∷_, _++_, append-assoc, append-nil}
 use lib.ListN.{length, take, drop, getD, set, drop-of-length-le}
 use lib.Seq.{drop-cons, take-suc-set, take-all}
-use Rattle.index.specs.Letters.{letterCount, letters}
-use lib.Dec.{ltb, leb}
+use Rattle.index.specs.declared.Kind.{Kind}
+use Rattle.index.specs.Letters.{letterCount, letters, mayHave}
+use lib.Dec.{leb}
 use native.Mathlib.Numerals.{add-one}
-use borrow.Author.Tests.{lt-ltb, le-leb, lt-leb, eq-eqb, ne-eqb}
+use borrow.Author.Tests.{le-leb, lt-leb, eq-eqb, ne-eqb}
 use Rattle.index.specs.work.Reading.{Parsed, andThen, digit, reaches, begins, ends, readDigits, readNumber, readCount, readLetter, readCounts, readMark, total}
 use native.Mathlib.Omega.{arith}
 use Rattle.index.specs.work.Reading.Parsed.{got, wrong}
@@ -114,22 +115,22 @@ module _ (t : List ℕ) (at : ℕ) where
   count-number h d = rw (front h) (simp d)
 
   -- ---- a letter
-  module _ (may l : ℕ) where
-    pub letter-end : length t ≤ at → readLetter (ltb 0 may) l (drop at t) ≡ got 0 (drop at t)
+  module _ (may : Bool) (l : ℕ) where
+    pub letter-end : length t ≤ at → readLetter may l (drop at t) ≡ got 0 (drop at t)
     unfolding readLetter
     letter-end h = rw (end h)
 
-    pub letter-shut : at < length t → may ≡ 0 → readLetter (ltb 0 may) l (drop at t) ≡ got 0 (drop at t)
+    pub letter-shut : at < length t → may ≡ false → readLetter may l (drop at t) ≡ got 0 (drop at t)
     unfolding readLetter
     letter-shut h e = rw (front h) (simp e)
 
-    pub letter-there : at < length t → 0 < may → getD t at 0 ≡ l → readLetter (ltb 0 may) l (drop at t) ≡ readCount (drop (at + 1) t)
+    pub letter-there : at < length t → may ≡ true → getD t at 0 ≡ l → readLetter may l (drop at t) ≡ readCount (drop (at + 1) t)
     unfolding readLetter
-    letter-there h m e = rw (front h) (simp (lt-ltb _ _ m, eq-eqb _ _ e))
+    letter-there h m e = rw (front h) (simp (m, eq-eqb _ _ e))
 
-    pub letter-none : at < length t → 0 < may → (getD t at 0 ≡ l → ⊥) → readLetter (ltb 0 may) l (drop at t) ≡ got 0 (drop at t)
+    pub letter-none : at < length t → may ≡ true → (getD t at 0 ≡ l → ⊥) → readLetter may l (drop at t) ≡ got 0 (drop at t)
     unfolding readLetter
-    letter-none h m e = rw (front h) (simp (lt-ltb _ _ m, ne-eqb _ _ e))
+    letter-none h m e = rw (front h) (simp (m, ne-eqb _ _ e))
 
   -- ---- `;`
   pub mark-end : length t ≤ at → readMark (drop at t) ≡ wrong (drop at t)
@@ -159,17 +160,16 @@ letters-from : (k : ℕ) → k < letterCount → drop k letters ≡ getD letters
 unfolding letters
 letters-from k h = front letters k h
 
-module _ (may k : ℕ) (h : k < letterCount) (t : List ℕ) where
-  counts-wrong : (s : List ℕ) → readLetter (ltb 0 (may - k)) (getD letters k 0) t ≡ wrong s → readCounts (may - k) (drop k letters) t ≡ wrong s
+module _ (kind : Kind) (k : ℕ) (h : k < letterCount) (t : List ℕ) where
+  counts-wrong : (s : List ℕ) → readLetter (mayHave kind k) (getD letters k 0) t ≡ wrong s → readCounts kind k (drop k letters) t ≡ wrong s
   unfolding readCounts
   counts-wrong s e = rw (letters-from k h) (simp e)
 
-  counts-next : (n : ℕ) (r : List ℕ) → readLetter (ltb 0 (may - k)) (getD letters k 0) t ≡ got n r
-      → readCounts (may - k) (drop k letters) t
-      ≡ andThen (readCounts (may - (k + 1)) (drop (k + 1) letters) r) (λ cs s. got (n ∷ cs) s)
+  counts-next : (n : ℕ) (r : List ℕ) → readLetter (mayHave kind k) (getD letters k 0) t ≡ got n r
+      → readCounts kind k (drop k letters) t
+      ≡ andThen (readCounts kind (k + 1) (drop (k + 1) letters) r) (λ cs s. got (n ∷ cs) s)
   unfolding readCounts
-  counts-next n r e =
-      let z : may - k - 1 ≡ may - (k + 1) = omega arith in rw (letters-from k h) (simp (e, z))
+  counts-next n r e = rw (letters-from k h) (simp e)
 
 -- what is read from letter k on, after the counts in out
 abbrev pub after : List ℕ → ℕ → Parsed (List ℕ) → Parsed (List ℕ)
@@ -187,18 +187,19 @@ after-next out k n (got cs r) h =
     ∙ ap (λ (l : List ℕ). l ++ cs) (sym (take-suc-set out k n h)) ∙ ap (λ (j : ℕ). take j (set out k n) ++ cs) (sym (add-one k)))
 after-next out k n (wrong s) h = refl
 
-module _ (out : List ℕ) (may k : ℕ) (h : k < letterCount) (t : List ℕ) where
-  pub after-wrong : (s : List ℕ) → readLetter (ltb 0 (may - k)) (getD letters k 0) t ≡ wrong s
-      → after out k (readCounts (may - k) (drop k letters) t) ≡ wrong s
-  after-wrong s e = ap (after out k) (counts-wrong may k h t s e)
+module _ (out : List ℕ) (kind : Kind) (k : ℕ) (h : k < letterCount) (t : List ℕ) where
+  pub after-wrong : (s : List ℕ) → readLetter (mayHave kind k) (getD letters k 0) t ≡ wrong s
+      → after out k (readCounts kind k (drop k letters) t) ≡ wrong s
+  after-wrong s e = ap (after out k) (counts-wrong kind k h t s e)
 
-  pub after-more : (n : ℕ) (r : List ℕ) → length out ≡ letterCount → readLetter (ltb 0 (may - k)) (getD letters k 0) t ≡ got n r
-      → after out k (readCounts (may - k) (drop k letters) t)
-      ≡ after (set out k n) (k + 1) (readCounts (may - (k + 1)) (drop (k + 1) letters) r)
+  pub after-more : (n : ℕ) (r : List ℕ) → length out ≡ letterCount → readLetter (mayHave kind k) (getD letters k 0) t ≡ got n r
+      → after out k (readCounts kind k (drop k letters) t)
+      ≡ after (set out k n) (k + 1) (readCounts kind (k + 1) (drop (k + 1) letters) r)
   after-more n r l e =
-      ap (after out k) (counts-next may k h t n r e) ∙ after-next out k n (readCounts (may - (k + 1)) (drop (k + 1) letters) r) (omega arith)
+      ap (after out k) (counts-next kind k h t n r e) ∙ after-next out k n (readCounts kind (k + 1) (drop (k + 1) letters) r) (omega arith)
 
-pub after-all : (out : List ℕ) (n k : ℕ) (t : List ℕ) → length out ≡ letterCount → k ≡ letterCount → after out k (readCounts n (drop k letters) t) ≡ got out t
+pub after-all : (out : List ℕ) (kind : Kind) (k : ℕ) (t : List ℕ) → length out ≡ letterCount → k ≡ letterCount
+    → after out k (readCounts kind k (drop k letters) t) ≡ got out t
 unfolding readCounts letters
-after-all out n k t l e =
+after-all out kind k t l e =
     rw e (ap (λ (x : List ℕ). got x t) (append-nil (take letterCount out) ∙ take-all letterCount out (omega arith)))

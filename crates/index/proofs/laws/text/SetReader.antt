@@ -3,16 +3,17 @@ use Prim.Native.Nat.{ℕ, suc, _+_, _-_, _<_, _≤_}
 use mathlib.Core.Path.{_≡_, refl, sym, ap, _∙_, subst}
 use mathlib.Core.Bool.{Bool, true, false, cond, _&&_}
 use mathlib.Core.List.{List, [], _∷_, _++_, append-nil}
-use lib.ListN.{getD}
+use lib.ListN.{getD, drop}
 use lib.Dec.{eqb, ltb}
 use native.Mathlib.Omega.{arith}
 use borrow.Author.Tests.{ltb-true, ltb-false, eqb-true}
 use Rattle.index.specs.declared.Kind.{Kind}
-use Rattle.index.specs.Letters.{letters, lettersOf}
+use Rattle.index.specs.Letters.{letters}
 use Rattle.index.specs.Block.{greatestName, nameCount}
 use Rattle.index.specs.Text.{Entry, decimal, pieceOf, piecesOf, entryText, textOf, IsEntry, IsSet, Writes}
 use Rattle.index.specs.work.Reading.{Parsed, andThen, readNumber, readCounts, readMark, total, readLetters, readAfterId, readRecord, readMore, readRecords, parse}
 use Rattle.index.specs.work.Reading.Parsed.{got, wrong}
+use Rattle.index.proofs.laws.block.MayHave.{capital, not-both}
 use Rattle.index.proofs.laws.text.TakenApart.{and-inv, guard-inv, and-true, not-got}
 use Rattle.index.proofs.laws.text.Readers.{Begun, Tells, Reader, tells-as, tells-end, tells-byte, tells-next, reader-got, reader-wrong, reader-if, some, reads, reader-then, reader-give}
 use Rattle.index.proofs.laws.text.ReadLetters.{piece-none}
@@ -35,22 +36,17 @@ pub record EntryText (kind : Kind) (least : ℕ) (e : Entry) (u : List ℕ) : Ty
 
 -- letters, of which there is one at least
 abbrev Lettered : Kind → List ℕ → List ℕ → Type 0
-Lettered kind cs u = Counts (lettersOf kind) letters cs u × (0 < total cs)
+Lettered kind cs u = Counts kind 0 letters cs u × (0 < total cs)
 
-some-letters : (kind : Kind) → 0 < lettersOf kind
-unfolding lettersOf
-some-letters Kind.Membership = omega arith
-some-letters Kind.Permission = omega arith
-some-letters Kind.Filter = omega arith
-
--- M once, and whatever may follow
+-- the first letter once, and whatever may follow
 some-lettered : (kind : Kind) → Begun (List ℕ) (Lettered kind) []
 unfolding letters piecesOf
 some-lettered kind =
-    let ls : List ℕ = 82 ∷ 85 ∷ 80 ∷ 109 ∷ 114 ∷ 117 ∷ 112 ∷ [] in
-    let (cs, more, c) = some (Counts (lettersOf kind - 1) ls) (readCounts (lettersOf kind - 1) ls) (counts-reader (lettersOf kind - 1) ls) in
-    let f = fair-cons (lettersOf kind) 77 ls 1 cs (omega arith) (λ z. absurd (omega (arith, some-letters kind, ltb-false 0 (lettersOf kind) z))) (c .1) in
-    (1 ∷ cs, pieceOf 77 1 ++ more, (((λ i. pieceOf 77 1 ++ c .0 i), f), omega arith))
+    let l = getD letters 0 0 in
+    let ls = drop 1 letters in
+    let (cs, more, c) = some (Counts kind 1 ls) (readCounts kind 1 ls) (counts-reader kind 1 ls) in
+    let f = fair-cons kind 0 l ls 1 cs (omega arith) (λ z. not-both kind 0 z (capital kind 0 (omega arith))) (c .1) in
+    (1 ∷ cs, pieceOf l 1 ++ more, (((λ i. pieceOf l 1 ++ c .0 i), f), omega arith))
 
 no-letters : (ls cs : List ℕ) → total cs ≡ 0 → piecesOf ls cs ≡ []
 unfolding piecesOf
@@ -85,14 +81,14 @@ module _ (kind : Kind) (least i : ℕ) (l : least ≤ i) (h : i ≤ greatestName
           eight = c .1 .long ∙ eight-letters;
           fits = c .1 .fits;
           counted = total-some cs s;
-          allowed = c .1 .none;
+          allowed = λ k n. let z : 0 + k ≡ k = omega arith in c .1 .none k (rw z n);
         };
         above = l;
       }
 
   letters-reader : Reader Entry (readLetters kind i) (λ e v. EntryText kind least e (decimal i ++ (59 ∷ v)))
   letters-reader =
-      reader-then (readCounts (lettersOf kind) letters) (Counts (lettersOf kind) letters) _ (counts-reader (lettersOf kind) letters) _
+      reader-then (readCounts kind 0 letters) (Counts kind 0 letters) _ (counts-reader kind 0 letters) _
       (λ cs u c.
       reader-if (λ e v. EntryText kind least e (decimal i ++ (59 ∷ (u ++ v)))) (ltb 0 (total cs)) (record { id = i; counts = cs })
       (λ p. entry-of cs (u ++ []) ((c .0 ∙ sym (append-nil u), c .1), ltb-true 0 (total cs) p))

@@ -1,7 +1,10 @@
 -- A record has a count above zero, four at a time.
+use mathlib.Core.Path.{sym, _∙_}
 use native.Mathlib.Omega.{arith}
+use borrow.Author.Tests.{not-true}
 use borrow.Author.Needs.{needs}
-use Rattle.index.proofs.laws.block.Checked.{letters-four, counted-of, after-none, not-counted}
+use Rattle.index.proofs.laws.block.Checked.{counted-of, after-none, not-counted}
+use Rattle.index.proofs.laws.block.MayHave.{no-small}
 use Rattle.index.proofs.block.checks.has_count.Statement.{statement}
 use Rattle.index.proofs.block.checks.has_count.Tie as tie
 
@@ -10,7 +13,9 @@ returns c = λ _. counted-of _ _ 0 (omega arith) (omega arith)
 
 returns-2 : tie.Need-returns-2
 returns-2 c =
-    λ a. not-counted _ _ (omega arith) (λ k l. a k (omega (arith, letters-four (c .before .before .before .before .before .args .kind) (omega arith))))
+    let kind = c .before .before .before .before .before .args .kind in
+    let n = sym (c .before .may-have .ensures) ∙ not-true (c .before .may-have .result) (c .if2 .taken) in
+    λ a. not-counted _ _ (omega arith) (λ k l. a k (no-small kind n k l))
 
 returns-3 : tie.Need-returns-3
 returns-3 c = λ _. not-counted _ _ (omega arith) (after-none _ _ 4 (omega arith) (omega arith))

@@ -1,56 +1,76 @@
--- The halves that are there, by the flags: one by itself, or both as a list of two changes.
-use mathlib.Core.Path.{_≡_}
+-- The halves that are present: one by itself, or both as a list of two changes.
+use mathlib.Core.Path.{_≡_, sym, _∙_}
 use mathlib.Core.Bool.{true, false}
 use mathlib.Core.List.{[], _∷_}
 use native.Mathlib.Omega.{arith}
 use borrow.Author.Needs.{needs}
-use Rattle.index.specs.Message.{flags}
-use Rattle.index.proofs.laws.message.Halves.{changes-previous, changes-new, changes-both}
+use borrow.Author.Tests.{not-true, not-false}
+use Rattle.index.specs.Message.{present}
+use Rattle.index.proofs.laws.message.Halves.{previous-alone, new-alone, changes-previous, changes-new, changes-both}
 use Rattle.index.proofs.laws.message.Packing.{ready-in, each-prepared}
 use Rattle.index.proofs.laws.message.Running.{one-carried}
 use Rattle.index.proofs.messages.carry.carry.Statement.{statement}
 use Rattle.index.proofs.messages.carry.carry.Tie as tie
 
+-- What the tests say of the halves.
+no-new : (c : tie.Then1) → present (c .before .before .before .before .args .m .now) 1 ≡ false
+no-new c = sym (c .before .is-present .ensures) ∙ not-true _ (c .if1 .taken)
+
+the-new : (c : tie.Else1) → present (c .before .before .before .before .args .m .now) 1 ≡ true
+the-new c = sym (c .before .is-present .ensures) ∙ not-false _ (c .if1 .left)
+
+no-previous : (c : tie.Then2) → present (c .before .before .before .before .before .before .args .m .now) 0 ≡ false
+no-previous c = sym (c .before .is-present2 .ensures) ∙ not-true _ (c .if2 .taken)
+
+the-previous : (c : tie.Else2) → present (c .before .before .before .before .before .before .args .m .now) 0 ≡ true
+the-previous c = sym (c .before .is-present2 .ensures) ∙ not-false _ (c .if2 .left)
+
+alone : (c : tie.Then1) → present (c .before .before .before .before .args .m .now) 0 ≡ true
+alone c = let s = c .before .before .before .before in previous-alone (s .args .m .now) (s .pre .formed .some-half) (no-new c)
+
 take-away-requires : tie.Need-take-away-requires
-unfolding flags
-take-away-requires c κs = rw (c .kind-of .ensures, c .before .before .half-at .ensures) (c .before .before .before .before .before .before .before .pre .previous (λ e. omega arith))
+take-away-requires c κs =
+    rw (c .kind-of .ensures, c .before .before .half-at .ensures .0) (c .before .before .before .before .before .before .before .pre .ready 0 (omega arith) (alone (c .before .before .before)))
 
 returns : tie.Need-returns
-unfolding flags
 returns c =
-    rw (changes-previous (c .before .before .before .before .before .before .before .before .before .before .args .m .now) (c .before .before .before .before .before .before .if1 .taken), ← c .before .before .before .before .before .half-at .ensures, ← c .before .before .before .kind-of .ensures) (one-carried (c .before .before .take-away .ensures))
+    let t = c .before .before .before .before .before .before in
+    rw (changes-previous (c .before .before .before .before .before .before .before .before .before .before .args .m .now) (alone t) (no-new t), ← c .before .before .before .before .before .half-at .ensures .0, ← c .before .before .before .kind-of .ensures)
+    (one-carried (c .before .before .take-away .ensures))
 
 put-in-requires : tie.Need-put-in-requires
-unfolding flags
-put-in-requires c κs = rw (c .kind-of2 .ensures, c .before .before .half-at2 .ensures) (c .before .before .before .before .before .before .before .before .pre .new (λ e. omega arith))
+put-in-requires c κs =
+    rw (c .kind-of2 .ensures, c .before .before .half-at2 .ensures .0) (c .before .before .before .before .before .before .before .before .before .pre .ready 1 (omega arith) (the-new (c .before .before .before .before .before)))
 
 returns-2 : tie.Need-returns-2
-unfolding flags
 returns-2 c =
-    rw (changes-new (c .before .before .before .before .before .before .before .before .before .before .before .args .m .now) (c .before .before .before .before .before .before .if2 .taken), ← c .before .before .before .before .before .half-at2 .ensures, ← c .before .before .before .kind-of2 .ensures) (one-carried (c .before .before .put-in .ensures))
+    rw (changes-new (c .before .before .before .before .before .before .before .before .before .before .before .before .args .m .now) (no-previous (c .before .before .before .before .before .before)) (the-new (c .before .before .before .before .before .before .before .before)), ← c .before .before .before .before .before .half-at2 .ensures .0, ← c .before .before .before .kind-of2 .ensures)
+    (one-carried (c .before .before .put-in .ensures))
 
 run-requires : tie.Need-run-requires
-unfolding flags
 run-requires c κs =
-    each-prepared (c .before .before .before .change-at .result ∷ c .before .before .change-at2 .result ∷ [])
-    (ready-in false _ (c .before .before .before .change-at .ensures) (c .before .before .before .before .before .before .before .before .before .pre .previous (c .before .before .before .before .if2 .left)), (ready-in true _ (c .before .before .change-at2 .ensures) (c .before .before .before .before .before .before .before .before .before .pre .new (c .before .before .before .before .before .if1 .left)), tt))
+    let s = c .before .before .before .before .before .before .before .before .before .before in
+    each-prepared (c .before .before .before .change-at .result ∷ c .before .before .change-at2 .result ∷ []) (
+      ready-in false _ (c .before .before .before .change-at .ensures) (s .pre .ready 0 (omega arith) (the-previous (c .before .before .before .before))),
+      (ready-in true _ (c .before .before .change-at2 .ensures) (s .pre .ready 1 (omega arith) (the-new (c .before .before .before .before .before .before))), tt),
+    )
 
 returns-3 : tie.Need-returns-3
-unfolding flags
 returns-3 c =
-    let e : flags (c .before .before .before .before .before .before .before .before .before .before .before .before .args .m .now) ≡ 3 = omega (arith, c .before .before .before .before .before .before .before .before .before .before .before .before .pre .formed .some-half) in
-    rw (changes-both (c .before .before .before .before .before .before .before .before .before .before .before .before .args .m .now) e, ← c .before .before .before .before .before .before .change-at .ensures, ← c .before .before .before .before .before .change-at2 .ensures) (c .before .before .run .ensures)
+    rw (changes-both (c .before .before .before .before .before .before .before .before .before .before .before .before .before .args .m .now) (the-previous (c .before .before .before .before .before .before .before)) (the-new (c .before .before .before .before .before .before .before .before .before)), ← c .before .before .before .before .before .before .change-at .ensures, ← c .before .before .before .before .before .change-at2 .ensures)
+    (c .before .before .run .ensures)
 
 pub carry-spec : {M : Type 1} → statement M
 carry-spec =
     tie.close
     (tie.spec
-    (λ c. search needs)
+    (λ c κs. search needs)
     (λ c κs. search needs)
     (λ c κs. search needs)
     take-away-requires
     (λ c. search needs)
     returns
+    (λ c κs. search needs)
     (λ c κs. search needs)
     (λ c κs. search needs)
     put-in-requires

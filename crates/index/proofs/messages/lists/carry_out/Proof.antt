@@ -1,6 +1,6 @@
 -- A list of changes is refused by its tests, or carried out.
 use borrow.Author.Needs.{needs}
-use Rattle.index.specs.Message.{Carried, changesIn}
+use Rattle.index.specs.Message.{Carried, packedChanges}
 use Rattle.index.specs.Calls.{listNeeds, CarriesOut}
 use Rattle.index.proofs.laws.message.ListTests.{list-passed, list-prepared}
 use Rattle.index.proofs.laws.Firsts.{first-all, refuses}
@@ -12,7 +12,7 @@ unfolding CarriesOut
 returns c =
     let s = c .before .before .before .before .before in
     refuses (λ n. (n, s .args .block .now))
-    (Carried (s .args .block .now) (changesIn (s .args .changes .now)) (s .args .block .now))
+    (Carried (s .args .block .now) (packedChanges (s .args .changes .now)) (s .args .block .now))
     (listNeeds (s .args .block .now) (s .args .changes .now)) (c .if1 .taken) (c .before .list-refused .ensures)
 
 run-requires : tie.Need-run-requires

@@ -1,48 +1,21 @@
--- The mask of a half, where it is there.
-use Prim.Native.Nat.{_+_}
-use native.Mathlib.Omega.{arith}
+-- The mask of a half, where it is present.
+use mathlib.Core.Path.{sym, _∙_}
 use borrow.Author.Needs.{needs}
-use Rattle.index.specs.Message.{flags, halfAt, Masked}
+use borrow.Author.Tests.{not-true, not-false}
+use Rattle.index.specs.Message.{Masked}
+use Rattle.index.proofs.laws.message.Halves.{not-there, each-says}
 use Rattle.index.proofs.messages.plain.mask_good.Statement.{statement}
 use Rattle.index.proofs.messages.plain.mask_good.Tie as tie
 
 returns : tie.Need-returns
-unfolding flags halfAt Masked
-returns c = λ n. absurd (n (c .if1 .taken))
-
-cast-mask : tie.Need-cast-mask
-cast-mask c = omega (arith, c .shared-slice-known3 .given (c .before .before .before .before .args .i + 4))
+returns c =
+    let a = c .before .before .before .args in
+    rw (not-there (a .m .now) (a .h) (sym (c .before .is-present .ensures) ∙ not-true _ (c .if1 .taken))) tt
 
 returns-2 : tie.Need-returns-2
-unfolding flags halfAt Masked
-returns-2 c = λ n. omega (arith, n (c .before .before .if1 .left))
-
-cast-kind-of : tie.Need-cast-kind-of
-cast-kind-of c = omega (arith, c .shared-slice-known4 .given 0)
-
-returns-3 : tie.Need-returns-3
-unfolding flags halfAt Masked
-returns-3 c =
-    λ n. let e = rw (c .before .before .kind-of .ensures) at (c .before .mask-end .ensures) in omega
-    (arith, n (c .before .before .before .before .before .before .if1 .left))
-
-returns-4 : tie.Need-returns-4
-unfolding flags halfAt Masked
-returns-4 c = λ n. let e = rw (c .before .before .kind-of .ensures) at (c .before .mask-end .ensures) in omega arith
+returns-2 c =
+    let a = c .before .before .before .before .before .args in
+    each-says (a .m .now) Masked (a .h) (c .is-masked .result) (sym (c .before .before .before .is-present .ensures) ∙ not-false _ (c .before .before .if1 .left)) (c .before .half-at .ensures .0) (c .is-masked .ensures)
 
 pub mask-good-spec : {M : Type 1} → statement M
-mask-good-spec =
-    tie.close
-    (tie.spec
-    (λ c. search needs)
-    returns
-    (λ c. search needs)
-    (λ c. search needs)
-    cast-mask
-    returns-2
-    (λ c. search needs)
-    cast-kind-of
-    (λ c κs. search needs)
-    (λ c κs. search needs)
-    returns-3
-    returns-4)
+mask-good-spec = tie.close (tie.spec (λ c κs. search needs) returns (λ c κs. search needs) (λ c κs. search needs) returns-2)

@@ -1,6 +1,6 @@
 -- A message is refused by its tests, or carried out.
 use borrow.Author.Needs.{needs}
-use Rattle.index.specs.Message.{changes, Carried}
+use Rattle.index.specs.Message.{previous, new, changes, Carried}
 use Rattle.index.specs.Calls.{messageNeeds, Message}
 use Rattle.index.proofs.laws.message.Halves.{message-passed, message-tested}
 use Rattle.index.proofs.laws.Firsts.{first-all, refuses}
@@ -12,7 +12,7 @@ unfolding Message
 returns c =
     let s = c .before .before .before .before .before in
     refuses (λ n. (n, s .args .block .now))
-    (Carried (s .args .block .now) (changes (s .args .message .now)) (s .args .block .now))
+    (Carried (s .args .block .now) (changes (previous (s .args .message .now)) (new (s .args .message .now))) (s .args .block .now))
     (messageNeeds (s .args .block .now) (s .args .message .now)) (c .if1 .taken) (c .before .refused .ensures)
 
 carry-requires : tie.Need-carry-requires

@@ -1,35 +1,21 @@
--- The names of a half, where it is there.
-use native.Mathlib.Omega.{arith}
+-- The names of a half, where it is present.
+use mathlib.Core.Path.{sym, _∙_}
 use borrow.Author.Needs.{needs}
-use Rattle.index.specs.Message.{flags, halfAt, Named}
+use borrow.Author.Tests.{not-true, not-false}
+use Rattle.index.specs.Message.{Named}
+use Rattle.index.proofs.laws.message.Halves.{not-there, each-says}
 use Rattle.index.proofs.messages.plain.names_good.Statement.{statement}
 use Rattle.index.proofs.messages.plain.names_good.Tie as tie
 
 returns : tie.Need-returns
-unfolding flags halfAt Named
-returns c = λ n. absurd (n (c .if1 .taken))
+returns c =
+    let a = c .before .before .before .args in
+    rw (not-there (a .m .now) (a .h) (sym (c .before .is-present .ensures) ∙ not-true _ (c .if1 .taken))) tt
 
 returns-2 : tie.Need-returns-2
-unfolding flags halfAt Named
-returns-2 c = λ n. omega (arith, n (c .before .before .if1 .left))
-
-returns-3 : tie.Need-returns-3
-unfolding flags halfAt Named
-returns-3 c = λ n. omega (arith, n (c .before .before .before .before .if1 .left))
-
-returns-4 : tie.Need-returns-4
-unfolding flags halfAt Named
-returns-4 c = λ n. omega arith
+returns-2 c =
+    let a = c .before .before .before .before .before .args in
+    each-says (a .m .now) Named (a .h) (c .is-named .result) (sym (c .before .before .before .is-present .ensures) ∙ not-false _ (c .before .before .if1 .left)) (c .before .half-at .ensures .0) (c .is-named .ensures)
 
 pub names-good-spec : {M : Type 1} → statement M
-names-good-spec =
-    tie.close
-    (tie.spec
-    (λ c. search needs)
-    returns
-    (λ c κs. search needs)
-    returns-2
-    (λ c. search needs)
-    (λ c κs. search needs)
-    returns-3
-    returns-4)
+names-good-spec = tie.close (tie.spec (λ c κs. search needs) returns (λ c κs. search needs) (λ c κs. search needs) returns-2)

@@ -1,47 +1,48 @@
 -- A message is well formed by its length, kind, flags and absent half.
+use mathlib.Core.Path.{_≡_}
+use mathlib.Core.Bool.{false}
 use native.Mathlib.Omega.{arith}
 use borrow.Author.Needs.{needs}
-use Rattle.index.specs.Message.{IsKind, flags}
-use Rattle.index.proofs.laws.Answer.{says-same}
+use Rattle.index.specs.Message.{IsKind, kindIn, flags, present, Blank}
+use Rattle.index.proofs.laws.Answer.{yes-not, no-not, says-same}
+use Rattle.index.proofs.laws.message.Halves.{each-half}
 use Rattle.index.proofs.messages.plain.well_formed.Statement.{statement}
 use Rattle.index.proofs.messages.plain.well_formed.Tie as tie
 
 returns-2 : tie.Need-returns-2
-unfolding IsKind flags
+unfolding IsKind kindIn
 returns-2 c = λ w. omega (arith, w .kind)
 
 returns-3 : tie.Need-returns-3
-unfolding IsKind flags
+unfolding IsKind kindIn
 returns-3 c = λ w. omega (arith, w .kind)
 
 returns-4 : tie.Need-returns-4
-unfolding IsKind flags
+unfolding flags
 returns-4 c = λ w. omega (arith, w .some-half)
 
 returns-5 : tie.Need-returns-5
-unfolding IsKind flags
+unfolding flags
 returns-5 c = λ w. omega (arith, w .some-half)
 
 returns-6 : tie.Need-returns-6
-unfolding IsKind flags
-returns-6 c =
-    says-same (c .blank .result)
-    (λ z. record { twelve = search needs; kind = omega arith; some-half = omega arith; no-previous = λ e. absurd (omega arith); no-new = λ _. z })
-    (λ w. w .no-new (c .before .if6 .taken))
-    (c .blank .ensures)
+returns-6 c = λ w. no-not (c .before .blank .result) (c .if6 .taken) (w .absent 0 (omega arith)) (c .before .blank .ensures)
 
 returns-7 : tie.Need-returns-7
-unfolding IsKind flags
+unfolding IsKind kindIn flags
 returns-7 c =
+    let m = c .before .before .before .before .before .before .before .before .before .before .before .args .m .now in
+    let first = yes-not (c .before .before .blank .result) (c .before .if6 .left) (c .before .before .blank .ensures) in
     says-same (c .blank2 .result)
-    (λ z. record { twelve = search needs; kind = omega arith; some-half = omega arith; no-previous = λ _. z; no-new = λ e. absurd (omega arith) })
-    (λ w. w .no-previous (c .before .if7 .taken))
+    (λ second.
+    record {
+      twelve = search needs;
+      kind = omega arith;
+      some-half = omega arith;
+      absent = each-half (λ h. present m h ≡ false → Blank m h) first second;
+    })
+    (λ w. w .absent 1 (omega arith))
     (c .blank2 .ensures)
-
-returns-8 : tie.Need-returns-8
-unfolding IsKind flags
-returns-8 c =
-    record { twelve = search needs; kind = omega arith; some-half = omega arith; no-previous = λ e. absurd (omega arith); no-new = λ e. absurd (omega arith) }
 
 pub well-formed-spec : {M : Type 1} → statement M
 well-formed-spec =
@@ -57,5 +58,4 @@ well-formed-spec =
     (λ c κs. search needs)
     returns-6
     (λ c κs. search needs)
-    returns-7
-    returns-8)
+    returns-7)

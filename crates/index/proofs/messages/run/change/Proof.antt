@@ -1,7 +1,7 @@
 -- A change is read out of its number, and done.
 use borrow.Author.Needs.{needs}
 use borrow.Author.Tests.{ne-eqb}
-use Rattle.index.specs.Message.{changeIn}
+use Rattle.index.specs.Message.{packedChange}
 use Rattle.index.proofs.messages.run.change.Statement.{statement}
 use Rattle.index.proofs.messages.run.change.Tie as tie
 
@@ -9,14 +9,14 @@ take-away-requires : tie.Need-take-away-requires
 take-away-requires c κs = rw (c .before .before .kind-of .ensures, c .before .before .before .half-in .ensures .1) (c .before .before .before .before .before .pre)
 
 returns : tie.Need-returns
-unfolding changeIn
+unfolding packedChange
 returns c = rw (c .before .before .before .before .if1 .taken) (rw (c .before .before .before .before .before .kind-of .ensures, c .before .before .before .before .before .before .half-in .ensures .1) at (c .before .before .take-away .ensures))
 
 put-in-requires : tie.Need-put-in-requires
 put-in-requires c κs = rw (c .before .before .kind-of .ensures, c .before .before .before .half-in .ensures .1) (c .before .before .before .before .before .pre)
 
 returns-2 : tie.Need-returns-2
-unfolding changeIn
+unfolding packedChange
 returns-2 c = rw (ne-eqb _ _ (c .before .before .before .before .if1 .left)) (rw (c .before .before .before .before .before .kind-of .ensures, c .before .before .before .before .before .before .half-in .ensures .1) at (c .before .before .put-in .ensures))
 
 pub change-spec : {M : Type 1} → statement M
