@@ -4,8 +4,8 @@
 use crate::gen::{self, Rng};
 use crate::growth::Growth;
 use crate::sides::{rounds, Sides};
-use crate::{binding, carries, denied, granted, letters, meets, numbers, passes, set_of, word, Index};
-use crate::{ALL, CHAIN, COUNTS, HEADER, IDS, KINDS, LAST, LETTERS, M, NAMES, P, RECORD, RIGHTS};
+use crate::{binding, carries, denied, granted, has, letters, meets, numbers, passes, set_of, word, Index};
+use crate::{ALL, CHAIN, COUNTS, DENIALS, HEADER, IDS, KINDS, LAST, LETTERS, M, MESSAGE, NAMES, P, RECORD, RIGHTS};
 use std::collections::{BTreeMap, BTreeSet};
 use std::fmt::Debug;
 use std::ops::Range;
@@ -264,7 +264,7 @@ impl Call<'_> {
     /// A message, good more often than not.
     fn bytes(&mut self) -> Vec<u8> {
         if self.rng.one_in(30) {
-            gen::bytes(self.rng, 14)
+            gen::bytes(self.rng, MESSAGE as u64 + 2)
         } else {
             gen::message(self.rng, self.index)
         }
@@ -287,7 +287,7 @@ impl Call<'_> {
             self.saw("flags accepted", m[1].into());
             self.saw("records more", Self::records(after) - Self::records(self.block));
         }
-        if [0, 7, 8].contains(&number) && m[1] & 1 == 1 {
+        if [0, 7, 8].contains(&number) && has(m[1], 0) {
             self.saw("number after a half was taken", number.into());
         }
     }
@@ -300,13 +300,13 @@ impl Call<'_> {
     }
 
     /// Asks a question of both programs; user, object, request and value, where it is accepted.
-    fn asked(&mut self, second: Answer, lib: Ask) -> Result<Option<(u16, u16, u8, u32)>, String> {
+    fn asked(&mut self, second: Answer, lib: Ask) -> Result<Option<(u16, u16, u64, u32)>, String> {
         let (user, object, request) = self.question();
         let (number, value) = second(self.block, user, object, request);
         let mut b = Lent::new(self.block);
         let got = lib(self.lib, b.lend(), user, object, request);
         self.agree(got, number, value, &[b.is(self.block)], format!("{user} {object} {request}"))?;
-        Ok((number == 0).then_some((user as u16, object as u16, request as u8, value)))
+        Ok((number == 0).then_some((user as u16, object as u16, request, value)))
     }
 
     fn rights(&mut self) -> Result<Vec<u8>, String> {
@@ -388,7 +388,7 @@ impl Call<'_> {
     }
 
     /// What the numbers of M records examined hung on.
-    fn saw_numbers(&mut self, index: &Index, names: [u16; 2], request: u8, value: u32) {
+    fn saw_numbers(&mut self, index: &Index, names: [u16; 2], request: u64, value: u32) {
         let (part, [user, object], numbers) = (&index.parts[M], names, numbers(value));
         let sides = names.map(|start| Growth::new(part, start));
         let order = numbers[0].cmp(&numbers[1]) as i64;
@@ -403,7 +403,7 @@ impl Call<'_> {
         let passing = (0..RIGHTS).filter(|&right| passes(index, object, right)).map(|right| 1 << right).sum();
         for side in 0..2 {
             self.saw_number(&sides, side, part.len(), numbers[side]);
-            self.saw_unlimited(&sides[side], side, numbers[side], [u64::from(value) & ALL, request.into(), passing]);
+            self.saw_unlimited(&sides[side], side, numbers[side], [u64::from(value) & ALL, request, passing]);
         }
     }
 
@@ -596,7 +596,7 @@ fn wrong_in_letters(word: &[u8], byte: u8, part: usize) -> &'static str {
         b'0'..=b'9' => "kind refused at a digit of a count above 65,535",
         _ if count == b"1" => "kind refused at the end of a count of 1",
         b';' => "kind refused at the semicolon after id 1023",
-        _ if part != P && LETTERS[RIGHTS..].contains(&byte) => "kind refused at a small letter",
+        _ if part != P && LETTERS[DENIALS].contains(&byte) => "kind refused at a small letter",
         _ if LETTERS.contains(&byte) => "kind refused at a letter out of order",
         _ => OTHER_BYTE,
     }

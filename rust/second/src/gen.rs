@@ -1,7 +1,7 @@
 //! Seeded cases: good blocks of every shape, damage of every kind, and calls that provoke each refusal on purpose.
 
-use crate::{letters, text, Counts, Index};
-use crate::{ALL, CHAIN, COUNTS, F, GREATEST, HALF, HALVES, HEADER, KINDS, LAST, LETTERS};
+use crate::{has, lettered, letters, text, Counts, Index};
+use crate::{ALL, CHAIN, COUNTS, DENIALS, F, FLAGS, GREATEST, HALF, HALVES, HEADER, KINDS, LAST, LETTERS};
 use crate::{ENTRIES, M, MESSAGE, NAMES, P, PART_ENTRIES, RECORD, RIGHTS, ROOM};
 use std::collections::BTreeMap;
 
@@ -40,25 +40,17 @@ fn count(rng: &mut Rng) -> u16 {
     }
 }
 
-/// How many letters a record of the kind may count, the first so many.
-fn lettered(kind: usize) -> usize {
-    if kind == P {
-        LETTERS.len()
-    } else {
-        RIGHTS
-    }
-}
-
 fn counts(rng: &mut Rng, kind: usize) -> Counts {
     let mut counts = Counts::default();
     let sparse = rng.pick(&[1, 2, 2, 4]);
-    for slot in counts.iter_mut().take(lettered(kind)) {
+    let letters: Vec<usize> = lettered(kind).collect();
+    for &k in &letters {
         if rng.one_in(sparse) {
-            *slot = count(rng);
+            counts[k] = count(rng);
         }
     }
     if counts == Counts::default() {
-        counts[rng.below(lettered(kind) as u64) as usize] = 1;
+        counts[rng.pick(&letters)] = 1;
     }
     counts
 }
@@ -193,7 +185,7 @@ fn two_rights(rng: &mut Rng) -> [u64; 2] {
 /// Counts of 1 for the letters of a mask.
 fn once(mask: u64) -> Counts {
     let mut counts = Counts::default();
-    letters(mask as u8).for_each(|k| counts[k] = 1);
+    letters(mask).for_each(|k| counts[k] = 1);
     counts
 }
 
@@ -246,7 +238,7 @@ pub fn damage(rng: &mut Rng, block: &mut Vec<u8>) {
             block[at + COUNTS..at + RECORD].fill(0);
         }
         11 if records > 0 => {
-            let at = record(rng) + COUNTS + 2 * RIGHTS + rng.below(2 * RIGHTS as u64) as usize;
+            let at = record(rng) + COUNTS + 2 * DENIALS.start + rng.below(2 * DENIALS.len() as u64) as usize;
             block[at] = 1;
         }
         12 => {
@@ -275,22 +267,27 @@ fn known(rng: &mut Rng, index: &Index, kind: usize) -> (u16, u16) {
     }
 }
 
+/// The mask of some letters, in the byte that a half has for it.
+fn masked(letters: impl Iterator<Item = usize>) -> u8 {
+    letters.map(|k| 1u64 << k).sum::<u64>() as u8
+}
+
 pub fn message(rng: &mut Rng, index: &Index) -> Vec<u8> {
     let kind = rng.below(KINDS as u64) as usize;
-    let flags = 1 + rng.below(3) as u8;
+    let flags = 1 + rng.below(FLAGS.into()) as u8;
     let mut m = vec![kind as u8 + 1, flags];
     let mut last = None;
     for side in 0..2 {
-        if flags >> side & 1 == 0 {
+        if !has(flags, side) {
             m.extend([0; HALF]);
             continue;
         }
         let name = last.filter(|_| rng.one_in(2)).unwrap_or_else(|| known(rng, index, kind));
         last = Some(name);
-        let counted = index.parts[kind].get(&name).map(|c| (0..c.len()).filter(|&k| c[k] > 0).map(|k| 1u8 << k).sum::<u8>());
+        let counted = index.parts[kind].get(&name).map(|c| masked((0..c.len()).filter(|&k| c[k] > 0)));
         let mask = match counted {
             Some(mask) if !rng.one_in(4) => (mask & rng.bits() as u8).max(mask & mask.wrapping_neg()),
-            _ => 1 + rng.below((1 << lettered(kind)) - 1) as u8,
+            _ => 1 + rng.below(masked(lettered(kind)).into()) as u8,
         };
         m.extend(name.0.to_le_bytes());
         m.extend(name.1.to_le_bytes());
@@ -299,13 +296,13 @@ pub fn message(rng: &mut Rng, index: &Index) -> Vec<u8> {
     let half = HALVES + HALF * rng.below(2) as usize;
     match rng.below(24) {
         0 => m[0] = rng.pick(&[0, KINDS as u8 + 1, 255]),
-        1 => m[1] = rng.pick(&[0, 4, 7]),
+        1 => m[1] = rng.pick(&[0, FLAGS + 1, 7]),
         2 => m.truncate(rng.below(MESSAGE as u64) as usize),
         3 => m.push(0),
         4 => m[HALVES + rng.below(2 * HALF as u64) as usize] = rng.bits() as u8,
         5 | 6 => m[half + rng.pick(&[1, 3])] = (NAMES >> 8) as u8,
-        7 | 8 => m[half + HALF - 1] = rng.pick(&[0, ALL as u8 + 1, 255]),
-        9 => m[rng.below(2) as usize] = rng.bits() as u8,
+        7 | 8 => m[half + HALF - 1] = rng.pick(&[0, ALL as u8 + 1, u8::MAX]),
+        9 => m[rng.below(HALVES as u64) as usize] = rng.bits() as u8,
         _ => {}
     }
     m

@@ -23,7 +23,7 @@ impl Growth<'_> {
 
     /// The rounds, 32 too, in which the mark of a name differs from the round before by one of these rights.
     fn rounds(&self, name: u16, rights: u64) -> BTreeSet<usize> {
-        letters(rights as u8).filter_map(|right| self.first[right].get(&name).copied()).collect()
+        letters(rights).filter_map(|right| self.first[right].get(&name).copied()).collect()
     }
 
     /// How often each M record of a name is examined by a walk for these rights alone.

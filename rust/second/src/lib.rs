@@ -3,6 +3,7 @@
 //! sets of names. Nothing here is shared with the library; the comparison holds the two against each other.
 
 use std::collections::{BTreeMap, BTreeSet};
+use std::ops::Range;
 use std::sync::LazyLock;
 
 mod directory;
@@ -21,6 +22,8 @@ pub const LETTERS: [u8; 8] = *b"MRUPmrup";
 pub const RIGHTS: usize = 4;
 /// The mask of all rights.
 pub const ALL: u64 = (1 << RIGHTS) - 1;
+/// Which of the letters are denials: one for each right, in the order of the rights.
+pub const DENIALS: Range<usize> = RIGHTS..2 * RIGHTS;
 /// Names are below this number.
 pub const NAMES: u16 = 1024;
 /// How many records a chain may have.
@@ -35,8 +38,9 @@ pub const COUNTS: usize = 4;
 pub const ROOM: usize = 2048;
 pub const GREATEST: usize = HEADER + ROOM * RECORD;
 
-/// Where the numbers of M records examined begin in the value of a full question, the user's and the object's, and their bits.
-const EXAMINED: [u32; 2] = [4, 18];
+/// Where the numbers of M records examined begin in the value of a full question, behind the rights: the user's, then the
+/// object's; and their bits.
+const EXAMINED: [u32; 2] = [RIGHTS as u32, RIGHTS as u32 + EXAMINED_BITS];
 const EXAMINED_BITS: u32 = 14;
 
 /// The greatest number of a record that can be asked for by its number.
@@ -46,6 +50,8 @@ pub const LAST: u64 = 65_535;
 pub const MESSAGE: usize = HALVES + 2 * HALF;
 pub const HALVES: usize = 2;
 pub const HALF: usize = 5;
+/// The flags of a message, all of them: one for each half, 1 for the previous one and 2 for the new one.
+pub const FLAGS: u8 = 1 | 2;
 
 /// The parts of a block in their order. A kind's number is one more.
 pub const M: usize = 0;
@@ -75,9 +81,16 @@ fn sized(block: &[u8]) -> bool {
     (HEADER..=GREATEST).contains(&block.len())
 }
 
-/// Whether a record of the kind may have these counts: some letter, and a denial in P only.
+/// The letters that a record of the kind may count, by their numbers: a denial in P only.
+fn lettered(kind: usize) -> impl Iterator<Item = usize> {
+    (0..LETTERS.len()).filter(move |k| kind == P || !DENIALS.contains(k))
+}
+
+/// Whether a record of the kind may have these counts: some letter, and none that the kind may not count.
 fn fair(kind: usize, counts: &Counts) -> bool {
-    counts.iter().any(|&n| n > 0) && (kind == P || counts[RIGHTS..].iter().all(|&n| n == 0))
+    let counted = |k: &usize| counts[*k] > 0;
+    let (all, own) = ((0..LETTERS.len()).filter(counted).count(), lettered(kind).filter(counted).count());
+    all > 0 && own == all
 }
 
 impl Index {
@@ -165,14 +178,19 @@ pub fn make(block: &[u8]) -> (u32, Vec<u8>) {
 
 struct Half {
     name: (u16, u16),
-    mask: u8,
+    mask: u64,
 }
 
 fn half(bytes: &[u8]) -> Half {
-    Half { name: (word(bytes, 0), word(bytes, 2)), mask: bytes[4] }
+    Half { name: (word(bytes, 0), word(bytes, 2)), mask: bytes[4].into() }
 }
 
-fn letters(mask: u8) -> impl Iterator<Item = usize> {
+/// Whether a message with these flags has a half, by its number: 0 is the previous one, 1 the new one.
+fn has(flags: u8, half: usize) -> bool {
+    flags >> half & 1 == 1
+}
+
+fn letters(mask: u64) -> impl Iterator<Item = usize> {
     (0..LETTERS.len()).filter(move |k| mask >> k & 1 == 1)
 }
 
@@ -186,12 +204,12 @@ fn apply(index: &mut Index, message: &[u8]) -> Result<(), u32> {
         return Err(3);
     }
     let (kind, flags) = (part_of(message[0].into())?, message[1]);
-    if flags == 0 || flags >> 2 != 0 {
+    if flags == 0 || flags > FLAGS {
         return Err(3);
     }
     let mut halves = [None, None];
     for (side, (slot, bytes)) in halves.iter_mut().zip(message[HALVES..].chunks(HALF)).enumerate() {
-        if flags >> side & 1 == 1 {
+        if has(flags, side) {
             *slot = Some(half(bytes));
         } else if bytes != [0; HALF] {
             return Err(3);
@@ -201,7 +219,7 @@ fn apply(index: &mut Index, message: &[u8]) -> Result<(), u32> {
     if present().any(|h| h.name.0 >= NAMES || h.name.1 >= NAMES) {
         return Err(4);
     }
-    if present().any(|h| h.mask == 0 || (kind != P && u64::from(h.mask) > ALL)) {
+    if present().any(|h| h.mask == 0 || (kind != P && h.mask > ALL)) {
         return Err(5);
     }
     let room = index.room();

@@ -28,15 +28,6 @@ impl Written {
         text.starts_with(self.head) || self.head.starts_with(text)
     }
 
-    /// How many letters a record may have, the first so many.
-    fn lettered(&self) -> usize {
-        if self.kind == P {
-            LETTERS.len()
-        } else {
-            RIGHTS
-        }
-    }
-
     /// Notes the text of a set, and then of the sets that have a letter more in the last record, or a record more: their texts
     /// begin with it. Whether a text that begins with it can show more than it does.
     fn grow(&mut self, set: &Set) -> bool {
@@ -50,10 +41,10 @@ impl Written {
         if left > 0 {
             if let Some((&id, counts)) = set.last_key_value() {
                 let after = counts.iter().rposition(|&count| count > 0).map_or(0, |k| k + 1);
-                (after..self.lettered()).for_each(|k| self.letter(set, id, k, 1));
+                lettered(self.kind).filter(|&k| k >= after).for_each(|k| self.letter(set, id, k, 1));
             }
             for id in greater_ids(set, left) {
-                (0..self.lettered()).for_each(|k| self.letter(set, id, k, 1));
+                lettered(self.kind).for_each(|k| self.letter(set, id, k, 1));
             }
         }
         self.texts.insert(text);

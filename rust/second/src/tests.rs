@@ -9,7 +9,7 @@ fn block(room: usize, records: &[(usize, u16, u16, u8)]) -> Vec<u8> {
     let mut index = Index::empty(HEADER + RECORD * room);
     for &(part, key, id, mask) in records {
         let counts = index.parts[part].entry((key, id)).or_default();
-        letters(mask).for_each(|k| counts[k] += 1);
+        letters(mask.into()).for_each(|k| counts[k] += 1);
     }
     index.encode()
 }

@@ -173,7 +173,7 @@ impl Call<'_> {
     }
 
     /// Asks a question by a directory of both programs; its request and value, where it is accepted.
-    fn asked_by(&mut self, second: AnswerBy, by: AskBy, ask: Ask) -> Result<Option<(u8, u32)>, String> {
+    fn asked_by(&mut self, second: AnswerBy, by: AskBy, ask: Ask) -> Result<Option<(u64, u32)>, String> {
         let lent = self.lent();
         let (user, object, request) = self.question();
         let (number, value) = second(self.block, &lent.entries, user, object, request);
@@ -188,7 +188,7 @@ impl Call<'_> {
         [user, object].into_iter().for_each(|name| self.saw_key(name));
         let filters = binding(&index_of(self.block), object as u16).count();
         self.saw("filters looked up, three or more taken as three", filters.min(3) as i64);
-        Ok(Some((request as u8, value)))
+        Ok(Some((request, value)))
     }
 
     pub fn rights_by(&mut self) -> Result<Vec<u8>, String> {
