@@ -40,9 +40,9 @@ pub fn packed(number: u32, value: u32) -> u64 {
 /// No text is longer: an id of four digits, counts of five, and a semicolon after each of the two.
 pub const TEXT: usize = NAMES as usize * (4 + 1 + 6 * LETTERS.len() + 1);
 
-/// With room for so many bytes a record, the library writes a text that it has not measured.
-const UNMEASURED: usize = 55;
-const OVER_UNMEASURED: &str = "bytes of room over 55 for each record of a text";
+/// With room for so many bytes a record, the library writes a text that it has not measured: it takes an id for five digits too.
+const UNMEASURED: usize = 5 + 1 + 6 * LETTERS.len() + 1;
+const OVER_UNMEASURED: &str = "bytes of room over what is enough for a text that is not measured";
 
 /// How much room that is for a text.
 fn unmeasured(text: &[u8]) -> usize {
@@ -81,6 +81,18 @@ impl<T: Copy + PartialEq + Debug + From<u8>> Lent<T> {
     }
 }
 
+/// The mask of each right, and the number of each letter.
+const EACH_RIGHT: [i64; RIGHTS] = [1, 2, 4, 8];
+const EACH_LETTER: [i64; LETTERS.len()] = {
+    let mut numbers = [0; LETTERS.len()];
+    let mut k = 0;
+    while k < numbers.len() {
+        numbers[k] = k as i64;
+        k += 1;
+    }
+    numbers
+};
+
 /// What each run is to meet, and nothing else: of which call, in what respect, and which.
 const TO_MEET: &[(&str, &str, &[i64])] = &[
     ("make", "number", &[0, 1]),
@@ -90,13 +102,13 @@ const TO_MEET: &[(&str, &str, &[i64])] = &[
     ("message", "flags accepted", &[1, 2, 3]),
     ("message", "records more", &[-1, 0, 1]),
     ("rights", "number", &[0, 1, 2, 4, 5]),
-    ("rights", "held", &[1, 2, 4, 8]),
-    ("rights", "not held", &[1, 2, 4, 8]),
-    ("rights", "granted, and not in every filter", &[1, 2, 4, 8]),
-    ("rights", "granted, and in the first filter, but not in every one", &[1, 2, 4, 8]),
+    ("rights", "held", &EACH_RIGHT),
+    ("rights", "not held", &EACH_RIGHT),
+    ("rights", "granted, and not in every filter", &EACH_RIGHT),
+    ("rights", "granted, and in the first filter, but not in every one", &EACH_RIGHT),
     ("rights", "granted, and stopped by one filter alone, of a group or of the object", &[0, 1]),
     ("rights", "held, with filters, three or more taken as three", &[0, 1, 2, 3]),
-    ("rights", "not granted for a denial alone", &[1, 2, 4, 8]),
+    ("rights", "not granted for a denial alone", &EACH_RIGHT),
     ("rights", "granted only by a chain of 32 records, for user or object", &[0, 1]),
     ("rights", "not granted but by a chain of 33 records, for user or object", &[0, 1]),
     ("rights", "held, with a name reached that has no M records, for user or object", &[0, 1]),
@@ -107,7 +119,7 @@ const TO_MEET: &[(&str, &str, &[i64])] = &[
     ("rights", "held only over an M record of name 0, for user or object", &[0, 1]),
     ("rights", "held only over an M record of name 1023, for user or object", &[0, 1]),
     ("rights", "held only over the fifth M record of a name or one behind it, for user or object", &[0, 1]),
-    ("rights", "held by a user who is the object", &[1, 2, 4, 8]),
+    ("rights", "held by a user who is the object", &EACH_RIGHT),
     ("rights", "examined for a user who is the object", &[1]),
     ("rights", "fewer examined for the user than for the object, as many, or more", &[-1, 0, 1]),
     ("rights", "times that an M record is examined for the user", &[0, 1, 2, 3, 4]),
@@ -165,8 +177,8 @@ const TO_MEET: &[(&str, &str, &[i64])] = &[
     ("count", "number", &[0]),
     ("count", "number of the block that it reads", &[0, 1, 2]),
     ("count", "bytes that the block has of it", &[0, 1, 2]),
-    ("count", "letter counted", &[0, 1, 2, 3, 4, 5, 6, 7]),
-    ("count", "letter that there is not, before a record with key and id", &[8]),
+    ("count", "letter counted", &EACH_LETTER),
+    ("count", "letter that there is not, before a record with key and id", &[LETTERS.len() as i64]),
     ("count", "number too great, that names a record by its last bits", &[16, 32]),
 ];
 

@@ -1,7 +1,7 @@
 //! The directory of keys and the calls by one, held against the second program. Beside each stands the library's own call
 //! without a directory: by the block's own directory it has to give the same.
 
-use super::{index_of, Ask, Call, Case, Lent, Library, CALLS, OVER_UNMEASURED};
+use super::{index_of, Ask, Call, Case, Lent, Library, CALLS, EACH_RIGHT, OVER_UNMEASURED};
 use crate::gen::{self, Directory, Whose};
 use crate::{binding, letters, set_of, word, ENTRIES, HALF, HALVES, KINDS, NAMES, PART_ENTRIES, RECORD};
 
@@ -48,15 +48,15 @@ pub const TO_MEET: &[(&[&str], &str, &[i64])] = &[
     (QUESTIONS, "number", &[0, 1, 2, 4, 5, 13]),
     (QUESTIONS, "13 where the call without it gives", &[0, 4, 5]),
     (QUESTIONS, "filters looked up, three or more taken as three", &[0, 1, 2, 3]),
-    (&["rights_by"], "held", &[1, 2, 4, 8]),
-    (&["rights_by"], "not held", &[1, 2, 4, 8]),
+    (&["rights_by"], "held", &EACH_RIGHT),
+    (&["rights_by"], "not held", &EACH_RIGHT),
     (&["rights_by"], "examined, for user or object", &[0, 1]),
     (&["may_by"], "answer", &[0, 1]),
     (EACH, "key looked up, the least or the greatest", &[0, 1023]),
     (EACH, "13 by a directory that was the block's own, that is another block's, or that is no block's", &[1, 2, 3]),
     (EACH, "13 by a directory with all its own entries but the last, or with one more", &[-1, 1]),
     (EACH, "13 for one entry, of part", &[1, 2, 3]),
-    (EACH, "13 for one entry, off by a record or by one", &[-20, -1, 1, 20]),
+    (EACH, "13 for one entry, off by a record or by one", &[-(RECORD as i64), -1, 1, RECORD as i64]),
     (EACH, "13 for one entry, of a key without records or with some", &[0, 1]),
     (EACH, "13 for the first entry alone, of part", &[1, 2, 3]),
     (EACH, "13 for the last entry alone, of part", &[1, 2, 3]),
