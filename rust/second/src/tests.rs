@@ -238,9 +238,9 @@ fn doors() {
     assert_eq!([0, 1, 2, 3, 4].map(|kind| size(&b, kind)), [(3, 0), (0, 1), (0, 1), (0, 1), (3, 0)]);
     let records = [0, 1, 2, 3, LAST, LAST + 1, 1 << 32].map(|number| record(&b, number));
     assert_eq!(records, [0x2_0001, 0x1_0009, 0x123_0009, 0, 0, 0, 0].map(|value| (0, value)));
-    let counts = [0, 1, 2, 3, 4, 7, 8, 256, u64::MAX].map(|letter| count(&b, 1, letter));
+    let counts = [0, 1, 2, 3, 4, 7, LETTERS.len() as u64, 256, u64::MAX].map(|letter| count(&b, 1, letter));
     assert_eq!(counts, [2, 1, 1, 0, 0, 1, 0, 0, 0].map(|value| (0, value)));
-    assert_eq!((tested(&b), tested(&b[..15]), tested(&b[..16])), (0, 1, 2));
+    assert_eq!((tested(&b), tested(&b[..HEADER - 1]), tested(&b[..HEADER])), (0, 1, 2));
     assert_eq!((record(&b[..HEADER + RECORD + 3], 1), record(&b[..HEADER + RECORD + 2], 1)), ((0, 0x1_0009), (0, 9)));
     assert_eq!((record(&b[..HEADER], 0), size(&[7], 1), size(&[], 1)), ((0, 0), (0, 7), (0, 0)));
 }
@@ -248,6 +248,11 @@ fn doors() {
 /// The entries of a part of a directory.
 fn entries(directory: &[u16], kind: usize) -> &[u16] {
     &directory[PART_ENTRIES * kind..][..PART_ENTRIES]
+}
+
+/// The place of a record, by its number among all of a block, as an entry has it.
+fn place_of(number: usize) -> u16 {
+    (HEADER + RECORD * number) as u16
 }
 
 /// The directory of a block.
@@ -264,17 +269,17 @@ const KEYED: [(usize, u16, u16, u8); 6] =
 #[test]
 fn directory_of_an_empty_block() {
     assert_eq!((PART_ENTRIES, ENTRIES), (1025, 3075));
-    assert_eq!(made(&empty(0)), [16; 3075]);
-    assert_eq!(made(&empty(4)), [16; 3075]);
+    assert_eq!(made(&empty(0)), [HEADER as u16; ENTRIES]);
+    assert_eq!(made(&empty(4)), [HEADER as u16; ENTRIES]);
 }
 
 #[test]
 fn directory_of_known_records() {
     let directory = made(&block(7, &KEYED));
     let at = |kind, numbers: [usize; 8]| numbers.map(|number| entries(&directory, kind)[number]);
-    assert_eq!(at(M, [0, 4, 5, 6, 7, 8, 9, 1024]), [16, 16, 16, 56, 56, 56, 76, 76]);
-    assert_eq!(at(P, [0, 1, 2, 5, 8, 9, 1023, 1024]), [76, 96, 96, 96, 96, 96, 96, 96]);
-    assert_eq!(at(F, [0, 1, 8, 9, 10, 1022, 1023, 1024]), [96, 96, 96, 96, 116, 116, 116, 136]);
+    assert_eq!(at(M, [0, 4, 5, 6, 7, 8, 9, 1024]), [0, 0, 0, 2, 2, 2, 3, 3].map(place_of));
+    assert_eq!(at(P, [0, 1, 2, 5, 8, 9, 1023, 1024]), [3, 4, 4, 4, 4, 4, 4, 4].map(place_of));
+    assert_eq!(at(F, [0, 1, 8, 9, 10, 1022, 1023, 1024]), [4, 4, 4, 4, 5, 5, 5, 6].map(place_of));
 }
 
 /// As the request says it: an entry is the place of the first record whose key is not below its number, or else the part's end.
@@ -299,18 +304,19 @@ fn directories_made() {
     assert_eq!(directory(&b, &made(&b)), (0, made(&b)));
     for length in [0, 1, ENTRIES - 1, ENTRIES + 1, 2 * ENTRIES] {
         assert_eq!(directory(&b, &vec![7; length]), (13, vec![7; length]));
-        assert_eq!(directory(&b[..15], &vec![7; length]), (1, vec![7; length]));
-        assert_eq!(directory(&b[..16], &vec![7; length]), (2, vec![7; length]));
+        assert_eq!(directory(&b[..HEADER - 1], &vec![7; length]), (1, vec![7; length]));
+        assert_eq!(directory(&b[..HEADER], &vec![7; length]), (2, vec![7; length]));
     }
-    assert_eq!(directory(&b[..16], &[7; ENTRIES]), (2, vec![7; ENTRIES]));
+    assert_eq!(directory(&b[..HEADER], &[7; ENTRIES]), (2, vec![7; ENTRIES]));
 }
 
 /// Directories of the wrong length, and with each entry in turn off by a record or by one.
 fn wrong_directories(own: &[u16]) -> impl Iterator<Item = Vec<u16>> + '_ {
     let lengths = [vec![], own[..ENTRIES - 1].to_vec(), [own, &own[ENTRIES - 1..]].concat(), [own, own].concat()];
-    let entries = (0..ENTRIES).map(|at| {
+    let (one, record) = (1u16, RECORD as u16);
+    let entries = (0..ENTRIES).map(move |at| {
         let mut wrong = own.to_vec();
-        wrong[at] = wrong[at].wrapping_add([1, 20, 65_516, 65_535][at % 4]);
+        wrong[at] = wrong[at].wrapping_add([one, record, record.wrapping_neg(), one.wrapping_neg()][at % 4]);
         wrong
     });
     lengths.into_iter().chain(entries)
@@ -329,11 +335,11 @@ fn calls_by_a_directory_are_refused_in_order() {
             assert_eq!(read_by(&b, &wrong, kind, key, b"3;m"), (13, 0, b.clone(), wrong.clone()));
             assert_eq!(write_by(&b, &wrong, kind, key, &[7; 2]), (13, 0, vec![7; 2]));
         }
-        for (user, request) in [(3, 15), (1024, 15), (3, 0)] {
+        for (user, request) in [(3, ALL), (1024, ALL), (3, 0)] {
             assert_eq!((rights_by(&b, &wrong, user, 0, request), may_by(&b, &wrong, user, 0, request)), ((13, 0), (13, 0)));
         }
     }
-    for (number, refused) in [(1, &b[..15]), (2, &b[..16])] {
+    for (number, refused) in [(1, &b[..HEADER - 1]), (2, &b[..HEADER])] {
         for lent in [&own[..], &[], &own[1..]] {
             assert_eq!(message_by(refused, lent, &give), (number, refused.to_vec(), lent.to_vec()));
             assert_eq!(read_by(refused, lent, 0, 5, b""), (number, 0, refused.to_vec(), lent.to_vec()));
@@ -370,16 +376,17 @@ fn directories_are_kept_true() {
     let b = block(7, &KEYED);
     let moved = permission(Some((0, 3, 15)), Some((1, 3, 15)));
     let (number, after, directory) = message_by(&b, &made(&b), &moved);
-    assert_eq!((number, entries(&directory, P)[..3].to_vec()), (0, vec![76, 76, 96]));
+    assert_eq!((number, entries(&directory, P)[..3].to_vec()), (0, [3, 3, 4].map(place_of).to_vec()));
     assert_eq!((entries(&directory, M), entries(&directory, F)), (entries(&made(&b), M), entries(&made(&b), F)));
     let (number, records, after, directory) = read_by(&after, &directory, 1, 6, b"1;M;2;M");
     assert_eq!((number, records, &directory), (8, 0, &made(&after)));
     let (number, records, after, directory) = read_by(&after, &directory, 1, 5, b"");
-    assert_eq!((number, records, entries(&directory, M)[..].to_vec()), (0, 0, [vec![16; 9], vec![36; 1016]].concat()));
-    assert_eq!((directory[PART_ENTRIES * P], directory[ENTRIES - 1]), (36, 96));
+    let left = [vec![place_of(0); 9], vec![place_of(1); 1016]].concat();
+    assert_eq!((number, records, entries(&directory, M)[..].to_vec()), (0, 0, left));
+    assert_eq!((directory[PART_ENTRIES * P], directory[ENTRIES - 1]), (place_of(1), place_of(4)));
     let (number, records, after, directory) = read_by(&after, &directory, 3, 1023, b"1;M;2;M;3;M");
     assert_eq!((number, records, &directory), (0, 3, &made(&after)));
-    assert_eq!(directory[ENTRIES - 2..], [76, 136]);
+    assert_eq!(directory[ENTRIES - 2..], [3, 6].map(place_of));
 }
 
 #[test]
