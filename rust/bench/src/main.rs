@@ -7,10 +7,10 @@
 //! same calls, in turn, on a block that its own calls have made. Buffers are warm: each call works on what the call before left.
 
 use compare::Archive;
-use plain::{Plain, ALL, CHAIN, ENTRIES, HEADER, MESSAGE, NAMES, NEW, OLD, ROOM};
+use plain::{half_at, Plain, ALL, CHAIN, ENTRIES, HEADER, MASK, MESSAGE, NAMES, NEW, OLD, ROOM};
 use second::drive::{Library, TEXT};
 use second::gen::Rng;
-use second::{Index, Part, M};
+use second::{Counts, Index, Part, M, RIGHTS};
 use std::collections::BTreeSet;
 use std::env::var;
 use std::ffi::c_int;
@@ -118,12 +118,12 @@ fn word(b: &[u8], at: usize) -> usize {
     usize::from(u16::from_le_bytes([b[at], b[at + 1]]))
 }
 
-/// A message with one half, the one that begins at `at`.
-fn message(at: usize, kind: u8, key: u16, id: u16, mask: u8) -> [u8; MESSAGE] {
-    let mut m = [0; MESSAGE];
-    m[..2].copy_from_slice(&[kind, if at == OLD { 1 } else { 2 }]);
-    m[at..at + 4].copy_from_slice(&[key, id].map(u16::to_le_bytes).concat());
-    m[at + 4] = mask;
+/// A message with one half, the old one or the new one.
+fn message(half: usize, kind: u8, key: u16, id: u16, mask: u8) -> [u8; MESSAGE] {
+    let (mut m, at) = ([0; MESSAGE], half_at(half));
+    (m[0], m[1]) = (kind, 1 << half);
+    m[at..at + MASK].copy_from_slice(&[key, id].map(u16::to_le_bytes).concat());
+    m[at + MASK] = mask;
     m
 }
 
@@ -387,7 +387,7 @@ fn in_tests(runners: &[Runner], asked: Asked) {
 
 /// Adds a membership and takes it away again.
 fn there_and_back(what: &str, runners: &mut [Runner], key: usize, id: usize) {
-    let messages = [NEW, OLD].map(|at| message(at, MEMBERSHIP, key as u16, id as u16, READ));
+    let messages = [NEW, OLD].map(|half| message(half, MEMBERSHIP, key as u16, id as u16, READ));
     row(what, runners, |run, n| {
         black_box(run.message(&messages[n % 2]));
     });
@@ -431,7 +431,7 @@ fn questions(programs: &Programs, name: &str, memberships: &[Membership]) {
 /// The memberships, of which two thirds carry one right only.
 fn thinned(memberships: &[Membership]) -> Vec<Membership> {
     let mut rng = Rng(42);
-    let mut thin = |mask: u8| if rng.one_in(3) { mask } else { 1 << rng.below(4) };
+    let mut thin = |mask: u8| if rng.one_in(3) { mask } else { 1 << rng.below(RIGHTS as u64) };
     memberships.iter().map(|&(key, id, mask)| (key, id, thin(mask))).collect()
 }
 
@@ -548,7 +548,7 @@ fn rounds_of(memberships: &Part, start: u16) -> Vec<Vec<u16>> {
     while rounds.len() < CHAIN && !grown.is_empty() {
         let before = marks;
         for (&(key, id), counts) in grown.iter().flat_map(|&name| records_of(memberships, name)) {
-            let mask = (0..4).filter(|&right| counts[right] > 0).map(|right| 1 << right).sum::<u8>();
+            let mask = (0..RIGHTS).filter(|&right| counts[right] > 0).map(|right| 1 << right).sum::<u8>();
             marks[usize::from(id)] |= before[usize::from(key)] & mask;
         }
         rounds.push(grown);
@@ -558,7 +558,7 @@ fn rounds_of(memberships: &Part, start: u16) -> Vec<Vec<u16>> {
 }
 
 /// The records of a name.
-fn records_of(memberships: &Part, name: u16) -> impl Iterator<Item = (&(u16, u16), &[u16; 8])> {
+fn records_of(memberships: &Part, name: u16) -> impl Iterator<Item = (&(u16, u16), &Counts)> {
     memberships.range((name, 0)..=(name, u16::MAX))
 }
 

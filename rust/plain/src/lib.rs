@@ -27,17 +27,22 @@ pub const ROOM: usize = 2048;
 pub const GREATEST: usize = HEADER + ROOM * RECORD;
 /// The greatest number of a record that can be asked for by its number.
 const LAST: u64 = 65_535;
-/// A message: kind and flags, then two halves of five bytes.
-pub const MESSAGE: usize = NEW + HALF;
-pub const OLD: usize = 2;
-pub const NEW: usize = OLD + HALF;
+/// A message: kind and flags, then two halves of five bytes, by their numbers. The flag of a half is 1 shifted by its number.
+pub const MESSAGE: usize = half_at(NEW) + HALF;
+pub const OLD: usize = 0;
+pub const NEW: usize = 1;
 const HALF: usize = 5;
-const MASK: usize = 4;
+pub const MASK: usize = 4;
 /// The parts of a block in their order. A kind's number is one more.
 const M: usize = 0;
 const P: usize = 1;
 const F: usize = 2;
 const KINDS: usize = 3;
+
+/// Where a half of a message begins.
+pub const fn half_at(half: usize) -> usize {
+    2 + HALF * half
+}
 
 fn word(b: &[u8], at: usize) -> usize {
     usize::from(u16::from_le_bytes(b[at..at + 2].try_into().expect("two bytes")))
@@ -217,14 +222,14 @@ fn count_at(i: usize, k: usize) -> usize {
     place(i) + COUNTS + 2 * k
 }
 
-fn take(b: &mut [u8], keys: &mut impl Keep, kind: usize, want: usize, mask: u8) -> u32 {
+fn take(b: &mut [u8], keys: &mut impl Keep, kind: usize, want: usize, mask: usize) -> u32 {
     let (i, there) = find(b, keys, kind, want);
     if !there || (0..LETTERS.len()).any(|k| mask >> k & 1 == 1 && word(b, count_at(i, k)) == 0) {
         return 6;
     }
     let mut left = 0;
     for k in 0..LETTERS.len() {
-        let n = word(b, count_at(i, k)) - usize::from(mask >> k & 1);
+        let n = word(b, count_at(i, k)) - (mask >> k & 1);
         put_word(b, count_at(i, k), n);
         left |= n;
     }
@@ -234,14 +239,14 @@ fn take(b: &mut [u8], keys: &mut impl Keep, kind: usize, want: usize, mask: u8) 
     0
 }
 
-fn add(b: &mut [u8], keys: &mut impl Keep, kind: usize, want: usize, mask: u8) -> u32 {
+fn add(b: &mut [u8], keys: &mut impl Keep, kind: usize, want: usize, mask: usize) -> u32 {
     let (i, there) = find(b, keys, kind, want);
     if there {
         if (0..LETTERS.len()).any(|k| mask >> k & 1 == 1 && word(b, count_at(i, k)) == MOST) {
             return 7;
         }
         for k in 0..LETTERS.len() {
-            let n = word(b, count_at(i, k)) + usize::from(mask >> k & 1);
+            let n = word(b, count_at(i, k)) + (mask >> k & 1);
             put_word(b, count_at(i, k), n);
         }
     } else {
@@ -250,9 +255,9 @@ fn add(b: &mut [u8], keys: &mut impl Keep, kind: usize, want: usize, mask: u8) -
         }
         shift(b, keys, kind, want >> NAME_BITS, i, i + 1);
         put_word(b, place(i), want >> NAME_BITS);
-        put_word(b, place(i) + 2, want % NAMES);
+        put_word(b, place(i) + ID, want % NAMES);
         for k in 0..LETTERS.len() {
-            put_word(b, count_at(i, k), usize::from(mask >> k & 1));
+            put_word(b, count_at(i, k), mask >> k & 1);
         }
     }
     0
@@ -262,25 +267,30 @@ pub fn message(b: &mut [u8], m: &[u8]) -> u32 {
     sound(b).map_or_else(|number| number, |()| message_with(b, &mut Search, m))
 }
 
+/// A half of a message, by its number: whether it is there, and its bytes.
+fn half(m: &[u8], half: usize) -> (bool, &[u8]) {
+    (m[1] >> half & 1 == 1, &m[half_at(half)..half_at(half + 1)])
+}
+
 /// The message on a good block, whose records are found in this way.
 fn message_with(b: &mut [u8], keys: &mut impl Keep, m: &[u8]) -> u32 {
     if m.len() != MESSAGE || !(1..=3).contains(&m[0]) || !(1..=3).contains(&m[1]) {
         return 3;
     }
-    let (old, new) = (m[1] & 1 == 1, m[1] & 2 == 2);
-    if (!old && m[OLD..NEW] != [0; HALF]) || (!new && m[NEW..] != [0; HALF]) {
+    let ((old, from), (new, to)) = (half(m, OLD), half(m, NEW));
+    if (!old && *from != [0; HALF]) || (!new && *to != [0; HALF]) {
         return 3;
     }
-    if [OLD, OLD + 2, NEW, NEW + 2].into_iter().any(|at| word(m, at) >= NAMES) {
+    if [from, to].into_iter().any(|half| word(half, 0) >= NAMES || word(half, ID) >= NAMES) {
         return 4;
     }
     let kind = usize::from(m[0]) - 1;
-    let (less, more) = (m[OLD + MASK], m[NEW + MASK]);
-    let bad = |mask: u8| mask == 0 || (kind != P && mask > ALL);
+    let (less, more) = (usize::from(from[MASK]), usize::from(to[MASK]));
+    let bad = |mask: usize| mask == 0 || (kind != P && mask > usize::from(ALL));
     if (old && bad(less)) || (new && bad(more)) {
         return 5;
     }
-    let (from, to) = (pair(m, OLD), pair(m, NEW));
+    let (from, to) = (pair(from, 0), pair(to, 0));
     if old {
         let number = take(b, keys, kind, from, less);
         if number != 0 {
@@ -353,8 +363,10 @@ fn spans(memberships: &[Record]) -> [Span; NAMES] {
 const USER: u8 = ALL;
 const OBJECT: u8 = ALL << RIGHTS;
 
-/// Where the numbers of M records examined begin in the value of a full question: the user's, then the object's.
-const EXAMINED: [usize; 2] = [4, 18];
+/// Where the numbers of M records examined begin in the value of a full question, behind the rights: the user's, then the
+/// object's.
+const EXAMINED: [usize; 2] = [RIGHTS, RIGHTS + EXAMINED_BITS];
+const EXAMINED_BITS: usize = 14;
 
 /// What one M record adds to them, by the bits by which its key's mark grew: 1 for each side whose half grew.
 static ONCE: [u32; 1 << (2 * RIGHTS)] = {
@@ -548,7 +560,7 @@ fn put_set(b: &[u8], lo: usize, hi: usize, out: &mut [u8]) -> usize {
         if i > lo {
             out.byte(b';');
         }
-        out.number(word(b, place(i) + 2));
+        out.number(word(b, place(i) + ID));
         out.byte(b';');
         for (k, &letter) in LETTERS.iter().enumerate() {
             let n = word(b, count_at(i, k));
@@ -563,7 +575,7 @@ fn put_set(b: &[u8], lo: usize, hi: usize, out: &mut [u8]) -> usize {
     out.at
 }
 
-/// No record has a longer text, with the `;` after it: an id of four digits, and eight letters with counts of five.
+/// No record has a longer text, with the `;` after it: an id of four digits, and each letter with a count of five.
 const LONGEST: usize = 4 + 1 + 6 * LETTERS.len() + 1;
 
 /// Whether the text of the set has at most so many bytes. It is measured only where the number of its records does not tell.
@@ -686,7 +698,7 @@ fn read_with(b: &mut [u8], keys: &mut impl Keep, kind: u64, key: u64, text: &[u8
     let _ = scan(text, kind, |n, id, counts| {
         let i = lo + n;
         put_word(b, place(i), key as usize);
-        put_word(b, place(i) + 2, id);
+        put_word(b, place(i) + ID, id);
         counts.iter().enumerate().for_each(|(k, &c)| put_word(b, count_at(i, k), c));
     });
     (0, records as u32)
@@ -713,7 +725,7 @@ pub fn record(b: &[u8], number: u64) -> u32 {
         return 0;
     }
     let at = place(number as usize);
-    word_in(b, at) | word_in(b, at + 2) << 16
+    word_in(b, at) | word_in(b, at + ID) << 16
 }
 
 pub fn count(b: &[u8], number: u64, letter: u64) -> u32 {
