@@ -89,7 +89,7 @@ impl Block {
     /// assert_eq!(block.read_set(Kind::Permission, 9, "1;U;2;U"), Err(Refusal::NoRoom));
     /// block.grow(2)?;
     /// assert_eq!(block.read_set(Kind::Permission, 9, "1;U;2;U"), Ok(2));
-    /// assert_eq!(block.grow(2_049), Err(Refusal::BlockLength));
+    /// assert_eq!(block.grow(Block::GREATEST_ROOM + 1), Err(Refusal::BlockLength));
     /// # Ok::<(), anaqsiro::Refusal>(())
     /// ```
     pub fn grow(&mut self, room: usize) -> Result<(), Refusal> {

@@ -1,5 +1,6 @@
 //! What the full question answers, taken apart.
 
+use crate::letters::RIGHTS;
 use crate::refusal::answer;
 use crate::{Block, Refusal, Rights};
 
@@ -35,6 +36,9 @@ pub struct Held {
     pub object_examined: u32,
 }
 
+/// The bits of each of the two numbers in the value of an answer, behind those of the rights.
+const EXAMINED: usize = 14;
+
 impl Held {
     /// No number of records examined on one side is above this one: four times the greatest room of a block.
     pub const MOST_EXAMINED: u32 = 4 * Block::GREATEST_ROOM as u32;
@@ -46,9 +50,9 @@ impl Held {
     pub fn from_answer(packed: u64) -> Result<Held, Refusal> {
         let value = answer(packed)?;
         Ok(Held {
-            rights: Rights::from_mask((value & 0xF).into()).unwrap_or_default(),
-            user_examined: value >> 4 & 0x3FFF,
-            object_examined: value >> 18,
+            rights: Rights::from_mask((value & u32::from(Rights::ALL.mask())).into()).unwrap_or_default(),
+            user_examined: value >> RIGHTS & ((1 << EXAMINED) - 1),
+            object_examined: value >> (RIGHTS + EXAMINED),
         })
     }
 }

@@ -5,18 +5,19 @@ use std::ops::{BitAnd, BitAndAssign, BitOr, BitOrAssign};
 use std::str::FromStr;
 
 /// The letters in their order: the rights, then the denial of each. The mask of a letter is 1 shifted by its place.
-const ORDER: &str = "MRUPmrup";
+pub(crate) const ORDER: &str = "MRUPmrup";
 
-/// How many letters there are, and how many of them are rights.
+/// How many letters there are, how many of them a mask has bits for, and how many are rights.
 pub(crate) const LETTERS: usize = ORDER.len();
-const RIGHTS: usize = 4;
+const MASKED: usize = u8::BITS as usize;
+pub(crate) const RIGHTS: usize = 4;
 
 /// The place of a letter in the order.
 pub(crate) fn place_of(letter: char) -> Option<usize> {
     ORDER.find(letter)
 }
 
-/// The letters that may stand in a text, all or only the rights, each with its mask.
+/// The letters that may stand in a text, all of a mask or only the rights, each with its mask.
 fn masks(letters: usize) -> impl Iterator<Item = (char, u8)> {
     ORDER.chars().take(letters).enumerate().map(|(place, letter)| (letter, 1 << place))
 }
@@ -44,7 +45,7 @@ fn written(mask: u8) -> String {
     if mask == 0 {
         return NONE.into();
     }
-    masks(LETTERS).filter(|&(_, one)| mask & one != 0).map(|(letter, _)| letter).collect()
+    masks(MASKED).filter(|&(_, one)| mask & one != 0).map(|(letter, _)| letter).collect()
 }
 
 /// How a mask without letters is written.
@@ -115,7 +116,7 @@ impl Rights {
     pub const READ: Rights = Rights(2);
     pub const UPDATE: Rights = Rights(4);
     pub const DELETE: Rights = Rights(8);
-    pub const ALL: Rights = Rights(15);
+    pub const ALL: Rights = Rights((1 << RIGHTS) - 1);
 
     /// The rights of a mask; none where it has more than rights. The mask is 64 bits wide, so that 257 is not taken for 1.
     pub const fn from_mask(mask: u64) -> Option<Rights> {
@@ -239,7 +240,7 @@ macro_rules! set_of_letters {
 }
 
 set_of_letters!(Rights, RIGHTS);
-set_of_letters!(Letters, LETTERS);
+set_of_letters!(Letters, MASKED);
 
 impl From<Rights> for Letters {
     fn from(rights: Rights) -> Letters {

@@ -1,6 +1,6 @@
 //! What stands in a block, record by record.
 
-use crate::letters::{place_of, LETTERS};
+use crate::letters::{place_of, LETTERS, ORDER};
 use crate::{raw, Block, Kind, Letters, Name, Refusal, NAMES};
 use std::array;
 use std::fmt;
@@ -37,7 +37,8 @@ impl Record {
 impl fmt::Display for Record {
     fn fmt(&self, f: &mut fmt::Formatter<'_>) -> fmt::Result {
         write!(f, "{}{} {};", self.kind.letter(), self.key, self.id)?;
-        self.letters().to_string().chars().try_for_each(|letter| match self.count(letter) {
+        ORDER.chars().zip(self.counts).try_for_each(|(letter, count)| match count {
+            0 => Ok(()),
             1 => write!(f, "{letter}"),
             count => write!(f, "{letter}{count}"),
         })

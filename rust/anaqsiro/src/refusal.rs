@@ -129,6 +129,7 @@ pub(crate) fn how_many(packed: u64) -> Result<usize, Refusal> {
 #[cfg(test)]
 mod tests {
     use super::*;
+    use crate::Block;
 
     #[test]
     fn an_answer_is_taken_apart() {
@@ -136,7 +137,8 @@ mod tests {
         assert_eq!(answer(u64::from(u32::MAX)), Ok(u32::MAX));
         assert_eq!(answer(8 << 32), Err(Refusal::NoRoom));
         assert_eq!(answer(9 << 32), Err(Refusal::Text { place: 0 }));
-        assert_eq!(answer(9 << 32 | 54_184), Err(Refusal::Text { place: 54_184 }));
+        let place = Block::LONGEST_TEXT - 1;
+        assert_eq!(answer(9 << 32 | place as u64), Err(Refusal::Text { place }));
         assert_eq!(answer(10 << 32), Err(Refusal::TextLong));
         assert_eq!(answer(11 << 32 | 5), Err(Refusal::Unknown(11)));
         assert_eq!(answer(12 << 32), Err(Refusal::Unknown(12)));
