@@ -1,13 +1,18 @@
 //! The block: its calls, its records, its room.
 
-use anaqsiro::{Block, Half, Kind, Letters, Message, Name, Record, Refusal, Rights};
+use anaqsiro::{Block, Half, Kind, Letters, Message, Name, Record, Refusal, Rights, NAMES};
 use second::gen::{self, Rng};
-use second::Index;
+use second::{Index, ALL, LETTERS, RIGHTS};
 use std::thread;
 
 /// A block with room for so many records.
 pub fn with_room(room: usize) -> Block {
     Block::with_room(room).expect("room")
+}
+
+/// How long that block is.
+fn length(room: usize) -> usize {
+    Block::SHORTEST + Block::RECORD * room
 }
 
 /// The rights that a user holds on 9.
@@ -40,10 +45,10 @@ fn a_wrong_text_is_cut_at_its_place() {
 /// The longest text of all: every name as an id, and every count as long as it can be.
 #[test]
 fn the_longest_text_is_written() {
-    let record = |id| format!("{id};{}", "MRUPmrup".chars().map(|letter| format!("{letter}65535")).collect::<String>());
-    let text = (0..1024).map(record).collect::<Vec<_>>().join(";");
-    let mut block = with_room(1024);
-    assert_eq!(block.read_set(Kind::Permission, 5, &text), Ok(1024));
+    let record = |id| format!("{id};{}", LETTERS.map(|letter| format!("{}65535", char::from(letter))).concat());
+    let text = (0..NAMES).map(record).collect::<Vec<_>>().join(";");
+    let mut block = with_room(NAMES as usize);
+    assert_eq!(block.read_set(Kind::Permission, 5, &text), Ok(NAMES as usize));
     assert_eq!(block.set_text(Kind::Permission, 5).as_ref(), Ok(&text));
     assert_eq!((text.len(), Block::LONGEST_TEXT), (54_185, 54_185));
 }
@@ -75,8 +80,8 @@ fn denials_stay_in_their_record() {
 /// Every three masks of filters, two on the object and one on its group, a mask of 0 for no filter: each binds.
 #[test]
 fn every_filter_binds() {
-    for masks in 0..1 << 12 {
-        let filters = [(9, 20, masks & 15), (9, 21, masks >> 4 & 15), (3, 20, masks >> 8)];
+    for masks in 0..1 << (3 * RIGHTS) {
+        let filters = [(9, 20, masks & ALL), (9, 21, masks >> RIGHTS & ALL), (3, 20, masks >> (2 * RIGHTS))];
         let mut block = with_room(5);
         block.read_set(Kind::Permission, 9, "1;MRUP").expect("room");
         block.read_set(Kind::Membership, 9, "3;M").expect("room");
@@ -92,30 +97,33 @@ fn every_filter_binds() {
 
 #[test]
 fn room_that_can_not_be_is_refused() {
-    assert_eq!((Block::LONGEST, Block::GREATEST_ROOM, Message::BYTES), (40_976, 2_048, 12));
-    for room in [0, 1, 2_047, 2_048] {
+    assert_eq!((Block::SHORTEST, Block::RECORD, Block::LONGEST), (16, 20, 40_976));
+    assert_eq!((Block::GREATEST_ROOM, Message::BYTES), (2_048, 12));
+    let (shortest, one, longest, most) = (Block::SHORTEST, length(1), Block::LONGEST, Block::GREATEST_ROOM);
+    for room in [0, 1, most - 1, most] {
         let block = with_room(room);
-        assert_eq!((block.bytes().len(), block.room(), block.check()), (16 + 20 * room, room, Ok(())));
+        assert_eq!((block.bytes().len(), block.room(), block.check()), (length(room), room, Ok(())));
     }
-    for room in [2_049, 4_096, usize::MAX / 20, usize::MAX] {
+    for room in [most + 1, 2 * most, usize::MAX / Block::RECORD, usize::MAX] {
         assert_eq!(Block::with_room(room), Err(Refusal::BlockLength));
         assert_eq!(with_room(3).grow(room), Err(Refusal::BlockLength));
     }
-    let rooms = [0, 15, 16, 35, 36, 40_975, 40_976, 40_977].map(|length| Block::from_bytes(vec![0; length]).room());
-    assert_eq!(rooms, [0, 0, 0, 0, 1, 2_047, 2_048, 0]);
+    let lengths = [0, shortest - 1, shortest, one - 1, one, longest - 1, longest, longest + 1];
+    let rooms = lengths.map(|length| Block::from_bytes(vec![0; length]).room());
+    assert_eq!(rooms, [0, 0, 0, 0, 1, most - 1, most, 0]);
 }
 
 #[test]
 fn a_block_that_is_not_good_is_refused_everywhere() {
-    let short = Block::from_bytes(vec![0; 15]);
-    let wrong = Block::from_bytes(vec![0; 36]);
+    let short = Block::from_bytes(vec![0; Block::SHORTEST - 1]);
+    let wrong = Block::from_bytes(vec![0; length(1)]);
     for (mut block, refusal) in [(short, Refusal::BlockLength), (wrong, Refusal::BlockNotGood)] {
         let before = block.clone();
         assert_eq!(block.check(), Err(refusal));
         assert_eq!(block.records().err(), Some(refusal));
         assert_eq!(block.mentions(1024).err(), Some(refusal));
         assert_eq!(block.grow(4), Err(refusal));
-        assert_eq!(block.grow(4_096), Err(refusal));
+        assert_eq!(block.grow(2 * Block::GREATEST_ROOM), Err(refusal));
         assert_eq!(block.save(), Err(refusal));
         assert_eq!(block.apply([0u8; 3]), Err(refusal));
         assert_eq!(block, before);
@@ -159,7 +167,7 @@ fn records_are_those_of_the_block() {
         most = most.max(wanted.len());
     }
     assert!(
-        met.iter().all(|&records| records > 1_000) && most >= 2_046,
+        met.iter().all(|&records| records > 1_000) && most >= Block::GREATEST_ROOM - 2,
         "met {met:?} records of each kind, {most} in one block"
     );
 }
@@ -172,7 +180,7 @@ fn records_end_and_stay_ended() {
     assert_eq!((records.len(), records.next().map(|record| record.id)), (2, Some(20)));
     assert_eq!((records.len(), records.next().map(|record| record.id)), (1, Some(21)));
     assert_eq!((records.len(), records.next(), records.next()), (0, None, None));
-    assert_eq!(format!("{block:?}"), r#"Block of 76 bytes ["F4 20;RU", "F4 21;R"]"#);
+    assert_eq!(format!("{block:?}"), format!(r#"Block of {} bytes ["F4 20;RU", "F4 21;R"]"#, length(3)));
 }
 
 #[test]
@@ -182,7 +190,7 @@ fn a_record_tells_its_letters() {
     let record = block.records().expect("good").next().expect("a record");
     assert_eq!(record.letters().to_string(), "MUp");
     assert_eq!(
-        "MRUPmrupX;".chars().map(|letter| record.count(letter)).collect::<Vec<_>>(),
+        "MRUPmrupQ;".chars().map(|letter| record.count(letter)).collect::<Vec<_>>(),
         [1, 0, 3, 0, 0, 0, 0, 65_535, 0, 0]
     );
 }
@@ -212,12 +220,12 @@ fn a_block_grows_and_keeps_its_records() {
         let mut rng = Rng(seed);
         let mut index = gen::index(&mut rng);
         let mut block = Block::from_bytes(index.encode());
-        let most = rng.pick(&[20, 100, 2_049]);
+        let most = rng.pick(&[20, 100, Block::GREATEST_ROOM as u64 + 1]);
         let room = rng.below(most) as usize;
         let before = block.clone();
         block.grow(room).expect("good, and not too long");
-        if 16 + 20 * room > index.length {
-            index.length = 16 + 20 * room;
+        if length(room) > index.length {
+            index.length = length(room);
             longer += 1;
         } else {
             left_alone += 1;
@@ -234,7 +242,7 @@ fn threads_share_nothing() {
     let history = |first: u64| {
         let mut block = with_room(60);
         for n in 0..4_000 {
-            let mask = Letters::from_mask(1 + n % 15).expect("a mask");
+            let mask = Letters::from_mask(1 + n % ALL).expect("a mask");
             let half = Some(Half::new((first + 7 * n) % 8, (first + 11 * n) % 9, mask));
             let (previous, new) = if n % 3 == 2 { (half, None) } else { (None, half) };
             let kind = [Kind::Membership, Kind::Permission][n as usize % 2];

@@ -2,6 +2,7 @@
 
 use anaqsiro::{raw, Block, DirectedBlock, Held, Kind, Record, Refusal, Rights};
 use second::drive::{self, run, Library};
+use second::LETTERS;
 
 /// The safe calls where the comparison wants a library. What they have no words for goes to the archive itself: a kind that is
 /// none, a request that is not of rights, a record that there is not, the records of a block that is not good, and a place for a
@@ -123,8 +124,8 @@ impl Library for Safe {
     }
 
     fn count(&self, block: &[u8], number: u64, letter: u64) -> u64 {
-        match (record_of(block, number), "MRUPmrup".chars().nth(letter.min(8) as usize)) {
-            (Some(record), Some(letter)) => record.count(letter).into(),
+        match (record_of(block, number), usize::try_from(letter).ok().and_then(|k| LETTERS.get(k))) {
+            (Some(record), Some(&letter)) => record.count(letter.into()).into(),
             _ => unsafe { raw::anaqsiro_count(block.as_ptr(), block.len(), number, letter) },
         }
     }

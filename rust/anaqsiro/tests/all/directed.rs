@@ -6,11 +6,15 @@ use second::gen::Rng;
 use std::panic::{catch_unwind, AssertUnwindSafe};
 use std::thread;
 
+/// Where a record stands, by its number among all of the block.
+fn offset(number: usize) -> u16 {
+    u16::try_from(Block::SHORTEST + Block::RECORD * number).expect("a block is not longer")
+}
+
 /// The block's own directory, record by record: in the part of a kind, a key's records begin after those of all keys below.
 fn own(block: &Block) -> Vec<u16> {
     let records: Vec<_> = block.records().expect("good").collect();
     let before = |kind: Kind, key: Name| records.iter().filter(|record| (record.kind, record.key) < (kind, key)).count();
-    let offset = |number: usize| u16::try_from(Block::SHORTEST + Block::RECORD * number).expect("a block is not longer");
     let all = Kind::ALL.into_iter().flat_map(|kind| (0..=NAMES).map(move |key| (kind, key)));
     all.map(|(kind, key)| offset(before(kind, key))).collect()
 }
@@ -40,11 +44,11 @@ fn the_entries_are_those_of_the_rules() {
     let directed = with_directory(mill());
     let parts: Vec<&[u16]> = directed.directory().chunks(DirectedBlock::PART).collect();
     let [memberships, permissions, filters] = parts[..] else { panic!("three parts") };
-    assert_eq!([0, 1, 2, 1_023, 1_024].map(|key| memberships[key]), [16, 16, 36, 36, 56]);
-    assert_eq!([0, 1, 9, 10, 1_024].map(|key| permissions[key]), [56, 76, 76, 116, 116]);
-    assert!(filters.iter().all(|&entry| entry == 116));
+    assert_eq!([0, 1, 2, 1_023, 1_024].map(|key| memberships[key]), [0, 0, 1, 1, 2].map(offset));
+    assert_eq!([0, 1, 9, 10, 1_024].map(|key| permissions[key]), [2, 3, 3, 5, 5].map(offset));
+    assert!(filters.iter().all(|&entry| entry == offset(5)));
     assert_eq!(directed.directory(), own(directed.block()));
-    assert!(with_directory(with_room(0)).directory().iter().all(|&entry| entry == 16));
+    assert!(with_directory(with_room(0)).directory().iter().all(|&entry| entry == offset(0)));
 }
 
 /// A full block: its last entry, the greatest that there is, fits 16 bits.
@@ -52,11 +56,11 @@ fn the_entries_are_those_of_the_rules() {
 fn the_entries_of_a_full_block_fit() {
     let mut block = with_room(Block::GREATEST_ROOM);
     let ids = (0..NAMES).map(|id| format!("{id};R")).collect::<Vec<_>>().join(";");
-    assert_eq!(block.read_set(Kind::Membership, 0, &ids), Ok(1_024));
-    assert_eq!(block.read_set(Kind::Filter, 1023, &ids), Ok(1_024));
+    assert_eq!(block.read_set(Kind::Membership, 0, &ids), Ok(NAMES as usize));
+    assert_eq!(block.read_set(Kind::Filter, 1023, &ids), Ok(NAMES as usize));
     let directed = with_directory(block);
     assert_eq!(directed.directory(), own(directed.block()));
-    assert_eq!(directed.directory().last(), Some(&40_976));
+    assert_eq!(directed.directory().last().copied().map(usize::from), Some(Block::LONGEST));
 }
 
 /// Entries that a host kept are taken where they are the block's own, and else the block comes back.
@@ -67,10 +71,10 @@ fn another_directory_is_refused() {
     let refused = |refusal| Err(NotDirected { block: mill(), refusal });
     for at in 0..entries.len() {
         let mut other = entries.clone();
-        other[at] += 20;
+        other[at] += Block::RECORD as u16;
         assert_eq!(DirectedBlock::from_parts(block.clone(), &other), refused(Refusal::DirectoryNotOwn), "the entry {at}");
     }
-    for wrong in [&entries[1..], &entries[..3_074], &[], &[&entries[..], &[116]].concat()] {
+    for wrong in [&entries[1..], &entries[..entries.len() - 1], &[], &[&entries[..], &[offset(5)]].concat()] {
         assert_eq!(DirectedBlock::from_parts(block.clone(), wrong), refused(Refusal::DirectoryNotOwn));
     }
 }
@@ -78,7 +82,7 @@ fn another_directory_is_refused() {
 /// The block is looked at first, and comes back.
 #[test]
 fn only_a_good_block_has_one() {
-    for (bytes, refusal) in [(vec![0; 15], Refusal::BlockLength), (vec![0; 40], Refusal::BlockNotGood)] {
+    for (bytes, refusal) in [(vec![0; Block::SHORTEST - 1], Refusal::BlockLength), (vec![0; 40], Refusal::BlockNotGood)] {
         let block = Block::from_bytes(bytes);
         let not = NotDirected { block: block.clone(), refusal };
         assert_eq!(block.clone().with_directory(), Err(not.clone()));
@@ -134,7 +138,7 @@ fn any_name(rng: &mut Rng) -> Name {
 }
 
 fn any_half(rng: &mut Rng) -> Half {
-    let most = if rng.one_in(9) { 256 } else { 4 };
+    let most = if rng.one_in(9) { 1 << u8::BITS } else { 4 };
     Half::new(any_name(rng), rng.below(3), Letters::from_mask(rng.below(most)).expect("a mask"))
 }
 
@@ -192,7 +196,7 @@ fn questions_and_texts_are_the_same() {
 #[test]
 fn a_block_grows_with_its_directory() {
     let mut directed = with_directory(mill());
-    assert_eq!(directed.grow(2_049), Err(Refusal::BlockLength));
+    assert_eq!(directed.grow(Block::GREATEST_ROOM + 1), Err(Refusal::BlockLength));
     assert_eq!(directed, with_directory(mill()));
     assert_eq!(directed.read_set(Kind::Filter, 9, "1;R;2;R;3;R;4;R"), Err(Refusal::NoRoom));
     directed.grow(9).expect("room");

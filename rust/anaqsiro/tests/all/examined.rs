@@ -2,6 +2,7 @@
 
 use crate::blocks::with_room;
 use anaqsiro::{raw, Block, Held, Kind, Name, Refusal, Rights};
+use second::ALL;
 
 /// The groups of the names 1 to 5: each right comes to 2, 3, 4 and 5 in a round of its own.
 const IN_TURN: [(Name, &str); 5] = [(1, "2;M;3;R;4;U;5;P"), (2, "3;MRUP"), (3, "4;MRUP"), (4, "5;MRUP"), (5, "2;MRUP")];
@@ -57,7 +58,7 @@ fn name_0_is_examined_where_it_is_reached() {
 fn request_permissions_and_filters_have_no_part_in_it() {
     let mut block = with_groups(IN_TURN.into_iter().chain([(9, "1;R")]));
     let answered = |block: &Block, held: Rights| {
-        for mask in 1..16 {
+        for mask in 1..=ALL {
             let request = Rights::from_mask(mask).expect("rights");
             let wanted = Held { rights: held & request, user_examined: 20, object_examined: 9 };
             assert_eq!(block.rights(1, 9, request), Ok(wanted));
@@ -78,7 +79,8 @@ fn the_numbers_of_a_full_block_fit() {
     let others: String = (100..610).map(|id| format!(";{id};M")).collect();
     let block = with_groups(IN_TURN.map(|(name, groups)| (name, groups.to_string() + if name == 1 { "" } else { &others })));
     assert_eq!(block.records().expect("good").len(), Block::GREATEST_ROOM);
-    assert_eq!(examined(&block, 1, 1), (4 + 4 * 2_044, 4 + 4 * 2_044));
+    let all = 4 + 4 * (Block::GREATEST_ROOM as u32 - 4);
+    assert_eq!(examined(&block, 1, 1), (all, all));
     assert_eq!(Held::MOST_EXAMINED, 8_192);
 }
 
@@ -90,8 +92,8 @@ fn a_refused_question_reports_nothing() {
         // SAFETY: no length is above that of the block.
         unsafe { raw::anaqsiro_rights(block.bytes().as_ptr(), length, 1, object, request) }
     };
-    let whole = block.bytes().len();
-    let refused = [asked(15, 9, 15), asked(36, 9, 15), asked(whole, 1024, 15), asked(whole, 9, 16)];
+    let (short, part, whole) = (Block::SHORTEST - 1, Block::SHORTEST + Block::RECORD, block.bytes().len());
+    let refused = [asked(short, 9, ALL), asked(part, 9, ALL), asked(whole, 1024, ALL), asked(whole, 9, ALL + 1)];
     assert_eq!(refused, [1, 2, 4, 5].map(|number| number << 32));
     assert_eq!(block.rights(1, 1024, Rights::ALL), Err(Refusal::Name));
 }

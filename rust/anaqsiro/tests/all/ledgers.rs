@@ -1,6 +1,6 @@
 //! The ledger, case by case.
 
-use anaqsiro::{Half, Kind, Ledger, Letters, Message, NotTaken, Refusal, Rights, Said, Statement, Taken, Why};
+use anaqsiro::{Block, Half, Kind, Ledger, Letters, Message, NotTaken, Refusal, Rights, Said, Statement, Taken, Why};
 use second::drive::packed;
 use second::gen::{self, Rng};
 
@@ -42,7 +42,7 @@ fn the_end_of_the_second_appointment_comes_before_its_start() {
     let (start, end) = (message("", "U"), message("U", ""));
     let mut ledger = with_room(8);
     let mut alone = ledger.block().clone();
-    let may = |block: &anaqsiro::Block| block.may(1, 9, Rights::UPDATE).expect("good");
+    let may = |block: &Block| block.may(1, 9, Rights::UPDATE).expect("good");
     let steps = [("first", 1, start, APPLIED), ("second", 2, end, EARLY), ("second", 1, start, Taken::Applied { released: 1 })];
     let mut seen = Vec::new();
     for (label, number, message, taken) in steps {
@@ -133,7 +133,7 @@ fn a_message_that_does_not_fit_is_not_taken() {
 #[test]
 fn a_message_that_is_not_well_formed_is_not_taken() {
     let mut met = [0; 6];
-    let empty = second::make(&[0; 16]).1;
+    let empty = second::make(&[0; Block::SHORTEST]).1;
     for seed in 0..4_000 {
         let mut rng = Rng(seed);
         let index = gen::index(&mut rng);
@@ -221,10 +221,10 @@ fn a_block_that_grows_takes_what_had_no_room() {
     }
     assert_eq!(ledger.grow(2), Ok(2));
     assert_eq!((waiting(&ledger), ledger.block().room()), (vec![("c", 1, full, vec![1])], 2));
-    assert_eq!(ledger.grow(2_049), Err(Refusal::BlockLength));
+    assert_eq!(ledger.grow(Block::GREATEST_ROOM + 1), Err(Refusal::BlockLength));
     assert_eq!(ledger.grow(2), Ok(0));
     assert_eq!(ledger.give_back("c", 1), Some(Message::new(P, None, on(3))));
-    assert_eq!((ledger.grow(2_048), lines(&ledger)), (Ok(0), vec!["P1 1;R".to_string(), "P2 1;R".to_string()]));
+    assert_eq!((ledger.grow(Block::GREATEST_ROOM), lines(&ledger)), (Ok(0), vec!["P1 1;R".to_string(), "P2 1;R".to_string()]));
     assert_eq!(ledger.take("c", 1, Message::new(P, None, on(3))), Ok(APPLIED));
 }
 
@@ -356,7 +356,7 @@ fn statements_of_a_record() {
 fn statements_that_can_not_be_are_not_restored() {
     let said = |left| Statement { kind: P, left, taken: 1 };
     let restored = |room, statements: &[Statement]| Ledger::restore(room, statements.iter().copied().enumerate());
-    assert_eq!(restored(2_049, &[]).err(), Some(Refusal::BlockLength));
+    assert_eq!(restored(Block::GREATEST_ROOM + 1, &[]).err(), Some(Refusal::BlockLength));
     assert_eq!(restored(1, &[said(on(1)), said(on(2))]).err(), Some(Refusal::NoRoom));
     assert_eq!(restored(1, &[said(on(1_024))]).err(), Some(Refusal::Name));
     let twice = Ledger::restore(1, [("a", said(on(1))), ("a", said(on(2)))]).expect("room for one");

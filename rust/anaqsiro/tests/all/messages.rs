@@ -1,6 +1,6 @@
 //! Kinds, halves, messages and refusals.
 
-use anaqsiro::{Block, Half, Kind, Letters, Message, Refusal, Rights};
+use anaqsiro::{Block, Half, Kind, Letters, Message, Refusal, Rights, NAMES};
 use second::drive::packed;
 
 /// The refusal of a number and a value.
@@ -28,6 +28,25 @@ fn every_refusal_has_its_number() {
     assert_eq!(Refusal::Unknown(99).to_string(), "refused with 99: not a number of this version");
 }
 
+/// A number with a comma before its last three digits.
+fn with_comma(number: usize) -> String {
+    format!("{},{:03}", number / 1_000, number % 1_000)
+}
+
+/// Where the words of the rules name a number, it is the one that the crate has a name for.
+#[test]
+fn the_words_have_the_numbers_of_the_crate() {
+    for (refusal, words) in [
+        (Refusal::BlockLength, format!("not {} to {}", Block::SHORTEST, with_comma(Block::LONGEST))),
+        (Refusal::Form, format!("not {} bytes", Message::BYTES)),
+        (Refusal::Name, format!("above {},", NAMES - 1)),
+        (Refusal::Mask, format!("above {};", Rights::ALL.mask())),
+        (Refusal::CountFull, format!("at {}", with_comma(u16::MAX.into()))),
+    ] {
+        assert!(refusal.to_string().contains(&words), "{refusal}, and not {words}");
+    }
+}
+
 #[test]
 fn a_wrong_text_is_told_with_its_place() {
     let words = [0, 1, 3].map(|place| Refusal::Text { place }.to_string());
@@ -44,7 +63,8 @@ fn every_kind_has_its_number() {
 
 /// The greatest half that there can be, and the least.
 fn halves() -> [Option<Half>; 3] {
-    [None, Some(Half::new(0, 1023, Rights::READ)), Some(Half::new(1023, 0, "MRUPmrup".parse::<Letters>().expect("letters")))]
+    let all = Letters::from_mask(u8::MAX.into()).expect("letters");
+    [None, Some(Half::new(0, 1023, Rights::READ)), Some(Half::new(1023, 0, all))]
 }
 
 #[test]

@@ -1,7 +1,7 @@
 //! Streams of many statements that arrive shuffled, some messages twice and some late. A tally that is kept here, from what has
 //! arrived alone, says what the block is to be at every moment.
 
-use anaqsiro::{Block, Half, Kind, Ledger, Letters, Message, Refusal, Taken, Why};
+use anaqsiro::{Block, Half, Kind, Ledger, Letters, Message, Refusal, Rights, Taken, Why};
 use second::gen::Rng;
 use second::Index;
 use std::collections::{BTreeMap, BTreeSet};
@@ -27,8 +27,8 @@ struct Size {
 
 /// A half of a kind. Names are few, so that statements share records.
 fn any_half(rng: &mut Rng, kind: Kind, names: u64) -> Half {
-    let most = if kind == Kind::Permission { 255 } else { 15 };
-    let mask = Letters::from_mask(1 + rng.below(most)).expect("a mask");
+    let most = if kind == Kind::Permission { u8::MAX } else { Rights::ALL.mask() };
+    let mask = Letters::from_mask(1 + rng.below(most.into())).expect("a mask");
     Half::new(rng.below(names), rng.below(names), mask)
 }
 
@@ -104,7 +104,8 @@ fn counted(length: usize, standing: impl Iterator<Item = Says>) -> Vec<u8> {
     for (kind, half) in standing.flatten() {
         let part = &mut index.parts[usize::from(kind.number()) - 1];
         let counts = part.entry((half.key as u16, half.id as u16)).or_default();
-        (0..8).filter(|k| half.mask.mask() >> k & 1 == 1).for_each(|k| counts[k] += 1);
+        let mask = u64::from(half.mask.mask());
+        (0..counts.len()).filter(|k| mask >> k & 1 == 1).for_each(|k| counts[k] += 1);
     }
     index.encode()
 }
