@@ -16,9 +16,10 @@ fn block(room: usize, records: &[(usize, u16, u16, u8)]) -> Vec<u8> {
 
 /// A message of permissions: what the statement said before, and what it says now, as key, id and mask.
 fn permission(previous: Option<(u16, u16, u8)>, new: Option<(u16, u16, u8)>) -> Vec<u8> {
-    let mut m = vec![P as u8 + 1, u8::from(previous.is_some()) | u8::from(new.is_some()) << 1];
-    for half in [previous, new] {
+    let mut m = vec![P as u8 + 1, 0];
+    for (side, half) in [previous, new].into_iter().enumerate() {
         let (key, id, mask) = half.unwrap_or_default();
+        m[1] |= u8::from(half.is_some()) << side;
         m.extend([key, id].map(u16::to_le_bytes).concat());
         m.push(mask);
     }
