@@ -39,25 +39,41 @@ static void test_version(void) {
     same_words("version", numbers, ANAQSIRO_VERSION);
 }
 
+/* The names have the numbers of the rules. */
+static void test_lengths(void) {
+    same("the shortest block", ANAQSIRO_BLOCK_MIN, 16);
+    same("a record", ANAQSIRO_RECORD, 20);
+    same("the longest block", ANAQSIRO_BLOCK_MAX, 40976);
+    same("a message", ANAQSIRO_MESSAGE, 12);
+    same("the longest text", ANAQSIRO_TEXT_MAX, 54185);
+    same("a part", ANAQSIRO_DIRECTORY_PART, 1025);
+    same("a directory", ANAQSIRO_DIRECTORY_LENGTH, 3075);
+}
+
 /* Each mask as letters and back, and words that are not in order, empty, or of other bytes. */
 static void test_letters(void) {
+    const uint32_t masks = (uint32_t)1 << ANAQSIRO_LETTERS;
     char word[ANAQSIRO_LETTERS + 1];
-    for (uint32_t mask = 0; mask < 256; mask++) {
+    for (uint32_t mask = 0; mask < masks; mask++) {
         same("mask", anaqsiro_mask(anaqsiro_put_letters(word, mask)), mask);
     }
     same_words("7", anaqsiro_put_letters(word, 7), "MRU");
-    same_words("255", anaqsiro_put_letters(word, 255), ANAQSIRO_SPELLED);
-    same_words("258", anaqsiro_put_letters(word, 258), "R");
+    same_words("the greatest mask", anaqsiro_put_letters(word, masks - 1), ANAQSIRO_SPELLED);
+    same_words("a greater one", anaqsiro_put_letters(word, masks + ANAQSIRO_READ), "R");
     same("UMp", anaqsiro_mask("UMp"), ANAQSIRO_CREATE | ANAQSIRO_UPDATE | ANAQSIRO_NO_DELETE);
-    same("MXR", anaqsiro_mask("MXR"), 0);
+    same("MQR", anaqsiro_mask("MQR"), 0);
     same("letter r", anaqsiro_letter_number('r'), 5);
     same("letter x", anaqsiro_letter_number('x'), ANAQSIRO_LETTERS);
     same("letter 0", anaqsiro_letter_number(0), ANAQSIRO_LETTERS);
 }
 
-/* Each number of the table has words of its own; later ones have none. */
+/* Each number of the table has words of its own; later ones have none. The words of 1 have the lengths. */
 static void test_refusals(void) {
+    char lengths[64];
+    snprintf(lengths, sizeof lengths, "block length not %u to %u,%03u", ANAQSIRO_BLOCK_MIN, ANAQSIRO_BLOCK_MAX / 1000,
+             ANAQSIRO_BLOCK_MAX % 1000);
     same_words("0", anaqsiro_refusal_text(0), "accepted");
+    same_words("1", anaqsiro_refusal_text(1), lengths);
     for (uint64_t number = 0; number <= ANAQSIRO_DIRECTORY_NOT_OWN; number++) {
         const int known = number <= ANAQSIRO_TEXT_LONG || number == ANAQSIRO_DIRECTORY_NOT_OWN;
         same("known", strcmp(anaqsiro_refusal_text(number), "unknown") != 0, known);
@@ -244,7 +260,7 @@ static void test_records(void) {
     same("record 2: U", anaqsiro_count(block, sizeof block, 2, letter_u), 2);
     same("record 2: p", anaqsiro_count(block, sizeof block, 2, 7), ANAQSIRO_COUNT_MAX);
     same("record 2: m", anaqsiro_count(block, sizeof block, 2, 4), 0);
-    same("letter 8", anaqsiro_count(block, sizeof block, 1, ANAQSIRO_LETTERS), 0);
+    same("no letter", anaqsiro_count(block, sizeof block, 1, ANAQSIRO_LETTERS), 0);
     same("a count past the bytes", anaqsiro_count(block, sizeof block, ROOM, 0), 0);
 
     block[6] = 1; /* this number is to be zero */
@@ -349,14 +365,13 @@ static void all_refused(const char *what, struct directed *one, size_t len, uint
 
 /* The entries of the directory: where the records of each key begin or would, and the end of each part. */
 static void test_directory(void) {
+    const uint64_t first = ANAQSIRO_BLOCK_MIN, next = first + ANAQSIRO_RECORD, end = next + 2 * ANAQSIRO_RECORD;
     struct directed one;
     make_directed(&one);
-    same("a part", ANAQSIRO_DIRECTORY_PART, 1025);
-    same("a directory", ANAQSIRO_DIRECTORY_LENGTH, 3075);
     for (size_t x = 0; x < ANAQSIRO_DIRECTORY_PART; x++) {
-        same("memberships", one.directory[x], x < ANAQSIRO_NAMES ? 16 : 36);
-        same("permissions", one.directory[ANAQSIRO_DIRECTORY_PART + x], x <= KEY ? 36 : 76);
-        same("filters", one.directory[2 * ANAQSIRO_DIRECTORY_PART + x], 76);
+        same("memberships", one.directory[x], x < ANAQSIRO_NAMES ? first : next);
+        same("permissions", one.directory[ANAQSIRO_DIRECTORY_PART + x], x <= KEY ? next : end);
+        same("filters", one.directory[2 * ANAQSIRO_DIRECTORY_PART + x], end);
     }
 }
 
@@ -416,6 +431,7 @@ static void test_left_behind(void) {
 
 int main(void) {
     test_version();
+    test_lengths();
     test_letters();
     test_refusals();
     test_bytes();

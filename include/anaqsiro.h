@@ -218,8 +218,8 @@ uint64_t anaqsiro_size(const uint8_t *block, size_t len, uint64_t kind);
  * of the key 0 and the id 0 has the value 0 too. Number 0. Value: key + 65,536 * id. */
 uint64_t anaqsiro_record(const uint8_t *block, size_t len, uint64_t number);
 
-/* The count of a letter, by its number 0 to 7, in a record, numbered as for anaqsiro_record. 0 for any other letter. Number 0.
- * Value: the count. */
+/* The count of a letter, by its number below ANAQSIRO_LETTERS, in a record, numbered as for anaqsiro_record. 0 for any other
+ * letter. Number 0. Value: the count. */
 uint64_t anaqsiro_count(const uint8_t *block, size_t len, uint64_t number, uint64_t letter);
 
 /* ---- an answer taken apart */
@@ -267,7 +267,7 @@ static inline const char *anaqsiro_refusal_text(uint64_t number) {
 
 /* ---- letters */
 
-/* The number of a letter, as anaqsiro_count takes it: 0 for M to 7 for p. 8 for any other byte. */
+/* The number of a letter, as anaqsiro_count takes it: 0 for M to 7 for p. ANAQSIRO_LETTERS for any other byte. */
 static inline uint32_t anaqsiro_letter_number(char letter) {
     uint32_t number = 0;
     while (number < ANAQSIRO_LETTERS && ANAQSIRO_SPELLED[number] != letter) {
