@@ -90,6 +90,10 @@ Has b i = place (i + 1) ≤ length b
 unfoldable pub room : List ℕ → ℕ
 room b = (length b - headerLength) / recordLength
 
+-- "2,048 at most"
+abbrev pub mostRecords : ℕ
+mostRecords = (greatestLength - headerLength) / recordLength
+
 -- ---- good
 
 -- "by key then id": record i stands before record j.

@@ -54,11 +54,14 @@ textOf (e ∷ f ∷ es) = entryText e ++ (59 ∷ textOf (f ∷ es))
 
 -- ---- the sets of a block
 
+-- The counts of the n letters from letter k on in record i.
+unfoldable pub countsFrom : List ℕ → ℕ → ℕ → ℕ → List ℕ
+countsFrom b i k ℕ.zero = []
+countsFrom b i k (suc n) = countAt b i k ∷ countsFrom b i (k + 1) n
+
 -- The counts of record i, in letter order.
 unfoldable pub countsAt : List ℕ → ℕ → List ℕ
-countsAt b i =
-    countAt b i 0 ∷ countAt b i 1 ∷ countAt b i 2 ∷ countAt b i 3 ∷ countAt b i 4 ∷ countAt b i 5 ∷ countAt b i 6
-    ∷ countAt b i 7 ∷ []
+countsAt b i = countsFrom b i 0 letterCount
 
 abbrev pub entryAt : List ℕ → ℕ → Entry
 entryAt b i = record { id = id b i; counts = countsAt b i }
@@ -77,7 +80,7 @@ setOf b kind x = setFrom b x (from b kind) (size b kind)
 -- A record of a set of the kind, as a good block could have it.
 pub record IsEntry (kind : Kind) (e : Entry) : Type 0 where
   pub named : IsName (e .id)
-  pub eight : length (e .counts) ≡ letterCount
+  pub long : length (e .counts) ≡ letterCount
   pub fits : (k : ℕ) → getD (e .counts) k 0 ≤ greatestCount
   pub counted : (k : ℕ) × (0 < getD (e .counts) k 0)
   pub allowed : (k : ℕ) → mayHave kind k ≡ false → getD (e .counts) k 0 ≡ 0

@@ -45,8 +45,10 @@ pub const GREATEST_COUNT: usize = 65535;
 // Keys and ids are numbers below this one. As a pair they are the key, plus this many times the id.
 pub const WIDE: usize = 65536;
 
-// The greatest length of a block.
-pub const GREATEST: usize = 40976;
+// The greatest length of a block, and how many records there is room for in it.
+pub const GREATEST: usize = HEADER + RECORD * ROOM;
+
+pub const ROOM: usize = 2048;
 
 // What a record says. Membership: the key is a member of the group id. Permission: id is granted or denied rights on
 // key. Filter: the filter named id bounds key.

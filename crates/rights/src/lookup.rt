@@ -2,15 +2,13 @@
 
 use directory::Span;
 use index::Kind;
+use index::ROOM;
 use index::WIDE;
 ghost use Prim.Native.Nat.{_<_, _≤_};
 ghost use mathlib.Core.Path.{_≡_};
 ghost use Rattle.index.specs.Block.{IsName, records, Sized, Good};
 ghost use Rattle.directory.specs.Directory.{StartsAt};
 ghost use Rattle.rights.specs.work.Lookup.{wide, Lent, KeyBefore, Keyed};
-
-// No part has more records than this.
-const MOST: usize = 2048;
 
 // The key of record i, if it is before `end`, or else a number that is below no name.
 fn key_before(block: &[u8], i: usize, end: usize) -> usize
@@ -33,14 +31,14 @@ fn taken(step: usize, key: usize, name: usize) -> usize
 }
 
 // The number of the first record of the kind whose key is not below the name. In the loop every record before `low` has a key below it, and
-// none after the window that begins at `low` has.
+// none after the window that begins at `low` has. No part has more records than there is room for in the longest block.
 fn lowest(block: &[u8], kind: Kind, name: usize) -> usize
     requires { ⌜ Sized (now block) × (Good (now block) × IsName name) ⌝ }
     ensures { λ r. ⌜ StartsAt (now (block .entry)) kind name r ⌝ }
 {
     let part = directory::part_of(block, kind);
     let mut low = part.from;
-    let mut window = MOST;
+    let mut window = ROOM;
     while window > 1 {
         let step = window / 2;
         low = low + taken(step, key_before(block, low + step, part.end), name);

@@ -14,7 +14,8 @@ use Rattle.index.specs.work.Longest.{fieldDigits, longestRecord}
 use Rattle.index.proofs.laws.text.Digits.{ten}
 use Rattle.index.proofs.laws.text.Decimal.{decimal-five}
 use Rattle.index.proofs.laws.text.IsSet.{is-set}
-use Rattle.index.proofs.laws.text.TextBound.{text-bound, few-records}
+use Rattle.index.proofs.laws.text.TextBound.{text-bound}
+use Rattle.index.proofs.laws.block.Records.{few-records}
 use Rattle.standing.specs.Printed.{lineOf, setLine, setLines, blockLines}
 use Rattle.standing.specs.work.Room.{Usable, longestLine, longestSets}
 

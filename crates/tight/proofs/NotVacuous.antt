@@ -10,7 +10,7 @@ use Rattle.index.specs.Letters.{letters, mayHave}
 use Rattle.index.specs.Numbers.{Answers, Each}
 use Rattle.index.specs.Block.{number, countAt, countFrom, count, room, Sized, nameCount, Good}
 use Rattle.index.specs.Message.{IsKind, kindOf, kindIn, flags, present, halfAt, halves, previous, new, changes, ownCount, WellFormed, Named, Masked, Carried, packed, packedKind, packedHalf, packedChange, packedChanges}
-use Rattle.index.specs.Text.{Writes, digitsOf, decimal, pieceOf, piecesOf, entryText, textOf, countsAt, setFrom, setOf}
+use Rattle.index.specs.Text.{Writes, digitsOf, decimal, pieceOf, piecesOf, entryText, textOf, countsFrom, countsAt, setFrom, setOf}
 use Rattle.index.specs.work.Reading.{digit, reaches, readDigits, readNumber, readCount, readLetter, readCounts, readMark, readRecord, readMore, readRecords, parse}
 use Rattle.index.specs.Calls.{blockNeeds, makeNeeds, messageNeeds, setNeeds, writeNeeds, Makes, Message, WritesSet, ReadsSet, listNeeds, CarriesOut}
 use Rattle.index.proofs.laws.Firsts.{All, first-all, passed-first, refuses, answers-first, first-passed}
@@ -211,7 +211,7 @@ set-passes x l = ((omega arith, omega arith), (good-test (reads 1) refl, ((omega
 
 -- Its text does not go into a buffer of no bytes.
 no-buffer : WritesSet (reads 1) 2 9 [] (10, 0, [])
-unfolding WritesSet writeNeeds number countAt kindOf letters digitsOf decimal pieceOf piecesOf entryText textOf countsAt setFrom setOf
+unfolding WritesSet writeNeeds number countAt kindOf letters digitsOf decimal pieceOf piecesOf entryText textOf countsFrom countsAt setFrom setOf
 no-buffer = passed-first _ (setNeeds (reads 1) 2 9) _ _ _ (set-passes 9 (omega arith)) (inl ((λ l. omega (arith, l)), refl))
 
 -- And there is no room for the same set of another key.

@@ -6,7 +6,7 @@ use Rattle.index.specs.Letters.{letters, mayHave}
 use Rattle.index.specs.Numbers.{Each}
 use Rattle.index.specs.Block.{number, countAt, countFrom, count, room}
 use Rattle.index.specs.Message.{kindOf, kindNumber, kindIn, flags, present, halfAt, halves, changes, moves, taken, added, ownCount}
-use Rattle.index.specs.Text.{digitsOf, decimal, pieceOf, piecesOf, entryText, textOf, countsAt, setFrom, setOf}
+use Rattle.index.specs.Text.{digitsOf, decimal, pieceOf, piecesOf, entryText, textOf, countsFrom, countsAt, setFrom, setOf}
 use Rattle.index.specs.work.Reading.{digit, reaches, readDigits, readNumber, readCount, readLetter, readCounts, readMark, readRecord, readMore, readRecords, parse}
 use Rattle.tight.specs.Blocks.{once, block, nothing, reads}
 use Rattle.tight.specs.Examples.{Case, Shows, granted, masks, texts, places, chains, examined, appointments, limits, cases}
@@ -22,7 +22,7 @@ unfolding number countAt countFrom count room mayHave kindOf kindNumber kindIn f
 masks-right = all-mean masks ((granted 135 ∷ [], refl, refl) and (refl, refl, refl) and (granted 79 ∷ [], refl, refl) and (refl, refl, refl) and tt)
 
 pub texts-right : Each Shows texts
-unfolding number countAt letters mayHave kindOf digitsOf decimal pieceOf piecesOf entryText textOf countsAt setFrom setOf digit reaches readDigits readNumber readCount readLetter readCounts readMark readRecord readMore readRecords parse
+unfolding number countAt letters mayHave kindOf digitsOf decimal pieceOf piecesOf entryText textOf countsFrom countsAt setFrom setOf digit reaches readDigits readNumber readCount readLetter readCounts readMark readRecord readMore readRecords parse
 texts-right =
     all-mean texts
     ((refl, refl, refl) and refl and refl and refl and refl and refl and refl and tt and (refl, refl, refl) and tt)

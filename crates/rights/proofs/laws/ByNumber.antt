@@ -7,10 +7,10 @@ use native.Mathlib.Omega.{arith}
 use Rattle.index.specs.declared.Kind.{Kind}
 use Rattle.index.specs.declared.Kind.the-variants.{Membership}
 use Rattle.index.specs.Letters.{rightCount}
-use Rattle.index.specs.Block.{size, Of, key, id, Sized, Good, count, NetAt}
+use Rattle.index.specs.Block.{mostRecords, size, Of, key, id, Sized, Good, count, NetAt}
 use Rattle.index.specs.work.Places.{At}
 use Rattle.index.proofs.laws.block.Bytes.{number-small}
-use Rattle.index.proofs.laws.block.Records.{gap-in, where-is, count-at, count-none, of-records}
+use Rattle.index.proofs.laws.block.Records.{few-records, gap-in, where-is, count-at, count-none, of-records}
 use Rattle.rights.specs.Held.{Is, Net}
 
 -- The size of the M part is a 16-bit number.
@@ -18,9 +18,8 @@ pub few-members : {b : List ℕ} → Good b → size b Membership < 2 ^ 16
 few-members {b} g = number-small b 0 (g .bytes)
 
 -- A block that is not too long has room for so many.
-pub no-more-members : {b : List ℕ} → Sized b → Good b → size b Membership ≤ 2048
-unfolding Sized
-no-more-members {b} sized g = omega (arith, sized, g .fits, gap-in Membership b (size b Membership) (omega arith))
+pub no-more-members : {b : List ℕ} → Sized b → Good b → size b Membership ≤ mostRecords
+no-more-members {b} sized g = omega (arith, few-records sized g, gap-in Membership b (size b Membership) (omega arith))
 
 pub at-self : {b : List ℕ} {kind : Kind} {i : ℕ} → Of b kind i → At b kind (key b i) (id b i) i
 at-self of = record { of = of; has-key = refl; has-id = refl }

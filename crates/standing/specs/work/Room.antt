@@ -2,7 +2,8 @@
 use Prim.Native.Nat.{ℕ, _+_, _*_}
 use mathlib.Core.List.{List}
 use Rattle.index.specs.Block.{Sized, Good}
-use Rattle.index.specs.work.Longest.{fieldDigits, longestRecord, mostRecords}
+use Rattle.index.specs.Block.{mostRecords}
+use Rattle.index.specs.work.Longest.{fieldDigits, longestRecord}
 
 -- The block passes the tests of every call.
 pub record Usable (b : List ℕ) : Type 0 where

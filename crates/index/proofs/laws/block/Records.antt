@@ -12,7 +12,7 @@ use borrow.Author.Tests.{eqb-true, eqb-false}
 use lib.Dec.{eqb}
 use Rattle.index.specs.declared.Kind.{Kind}
 use Rattle.index.specs.declared.Kind.the-variants.{Membership, Permission, Filter}
-use Rattle.index.specs.Block.{size, from, records, key, id, countAt, countFrom, count, Of, Before, Good}
+use Rattle.index.specs.Block.{Sized, mostRecords, size, from, records, key, id, countAt, countFrom, count, Of, Before, Good}
 use Rattle.index.specs.work.Places.{spot, At}
 use Rattle.index.proofs.laws.Range.{lt-or-le}
 
@@ -56,6 +56,11 @@ one-kind Filter Permission b i o p = absurd (omega arith)
 one-kind Filter Filter b i o p = refl
 
 -- The end of a part is within the records.
+-- "2,048 at most": a block that is not too long has no more records.
+pub few-records : {b : List ℕ} → Sized b → Good b → records b ≤ mostRecords
+unfolding Sized
+few-records s g = omega (arith, s .1, g .fits)
+
 pub gap-in : (kind : Kind) (b : List ℕ) (i : ℕ) → i ≤ from b kind + size b kind → i ≤ records b
 gap-in Membership b i l = omega arith
 gap-in Permission b i l = omega arith

@@ -29,7 +29,7 @@ record Same (b : List ℕ) (i : ℕ) (b′ : List ℕ) (i′ : ℕ) : Type 0 whe
 
 -- It does so where the numbers in its bytes are the same.
 same-numbers : (b : List ℕ) (i : ℕ) (b′ : List ℕ) (i′ : ℕ)
-    → ((o : ℕ) → o < 19 → number b′ (place i′ + o) ≡ number b (place i + o)) → Same b i b′ i′
+    → ((o : ℕ) → o + 1 < recordLength → number b′ (place i′ + o) ≡ number b (place i + o)) → Same b i b′ i′
 same-numbers b i b′ i′ e =
     record {
       same-key = let z : place i′ + 0 ≡ place i′ = omega arith in let w : place i + 0 ≡ place i = omega arith in rw (z, w) at (e 0 (omega arith));

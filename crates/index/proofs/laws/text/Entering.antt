@@ -25,7 +25,7 @@ use Rattle.index.proofs.laws.block.Bytes.{number-below, inside-none, in
 use Rattle.index.proofs.laws.text.TakenApart.{not-got}
 use Rattle.index.proofs.laws.text.HandedOn.{Other, is-entry, no-entry}
 use Rattle.index.proofs.laws.text.ReadSets.{head-entry}
-use Rattle.index.proofs.laws.text.Writes.{counts-eight, counts-each}
+use Rattle.index.proofs.laws.text.Writes.{counts-long, counts-each}
 
 -- ---- one record
 
@@ -34,8 +34,8 @@ entry-by : (b : List ℕ) (i : ℕ) (e : Entry) → length (e .counts) ≡ lette
     → ((k : ℕ) → k < letterCount → number b (place i + 4 + 2 * k) ≡ getD (e .counts) k 0) → entryAt b i ≡ e
 entry-by b i e l n h =
     let c : countsAt b i ≡ e .counts =
-    ext-getD 0 (countsAt b i) (e .counts) (counts-eight b i ∙ sym l)
-    (λ k m. let j : k < letterCount = omega (arith, counts-eight b i) in counts-each b i k j ∙ count-number b i k j ∙ h k j) in
+    ext-getD 0 (countsAt b i) (e .counts) (counts-long b i ∙ sym l)
+    (λ k m. let j : k < letterCount = omega (arith, counts-long b i) in counts-each b i k j ∙ count-number b i k j ∙ h k j) in
     λ j. record { id = n j; counts = c j }
 
 -- What was written of it before its counts from k on.
@@ -82,7 +82,7 @@ stands-below {j = j} {b = b} {b′ = b′} w h s =
     record {
       has-key = number-below w (place j) (omega arith) ∙ s .has-key;
       is =
-          entry-by b′ j (entryAt b j) (counts-eight b j) (number-below w (place j + 2) (omega arith))
+          entry-by b′ j (entryAt b j) (counts-long b j) (number-below w (place j + 2) (omega arith))
           (λ k l. number-below w (place j + 4 + 2 * k) (omega arith) ∙ sym (counts-each b j k l ∙ count-number b j k l))
           ∙ s .is;
     }

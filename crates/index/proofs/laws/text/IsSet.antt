@@ -14,7 +14,7 @@ use Rattle.index.specs.Text.{Entry, entryAt, setFrom, setOf, IsEntry, Is
 use Rattle.index.proofs.laws.Range.{lt-or-le}
 use Rattle.index.proofs.laws.block.Bytes.{number-small, count-number, count-out}
 use Rattle.index.proofs.laws.block.Records.{of-records, rises}
-use Rattle.index.proofs.laws.text.Writes.{counts-eight}
+use Rattle.index.proofs.laws.text.Writes.{counts-long}
 use Rattle.index.proofs.laws.text.SetCounts.{counts-any}
 
 -- Records with rising ids, at least lo.
@@ -39,7 +39,7 @@ module _ {b : List ℕ} (g : Good b) (kind : Kind) where
       let (k, h, c) = g .counted i l in
       record {
         named = g .ids i l;
-        eight = counts-eight b i;
+        long = counts-long b i;
         fits = λ k. omega (arith, counts-any b i k, count-fits i k);
         counted = (k, omega (arith, counts-any b i k));
         allowed = λ k m. counts-any b i k ∙ g .allowed kind i o k m;

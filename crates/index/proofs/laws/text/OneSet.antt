@@ -43,7 +43,7 @@ pub some-letter : {kind : Kind} {e : Entry} → IsEntry kind e → (k : ℕ) × 
 some-letter {e = e} i =
     let (k, c) = i .counted in (
       k,
-      ⊎-elim (λ h. h) (λ h. absurd (omega (arith, List·getD-eq-default (e .counts) 0 {n = k} (omega (arith, i .eight)))))
+      ⊎-elim (λ h. h) (λ h. absurd (omega (arith, List·getD-eq-default (e .counts) 0 {n = k} (omega (arith, i .long)))))
           (lt-or-le k letterCount),
       c,
     )
@@ -78,8 +78,8 @@ rises-one {kind} (next {e = e} {es = es} i l r) (next {e = f} {es = fs} j m t) s
     both : f .id ≡ e .id → es ≡ fs → e ∷ es ≡ f ∷ fs
     both q v =
         let c : e .counts ≡ f .counts =
-        ext-getD 0 (e .counts) (f .counts) (i .eight ∙ sym (j .eight))
-        (λ k h. sym (count-here e es (e .id) k refl) ∙ s (e .id) k (omega (arith, i .eight)) ∙ count-here f fs (e .id) k q) in
+        ext-getD 0 (e .counts) (f .counts) (i .long ∙ sym (j .long))
+        (λ k h. sym (count-here e es (e .id) k refl) ∙ s (e .id) k (omega (arith, i .long)) ∙ count-here f fs (e .id) k q) in
         let d : e .id ≡ f .id = sym q in
         λ z. record { id = d z; counts = c z } ∷ v z
 

@@ -1,16 +1,18 @@
 -- Letters with counts are read as what they are written from.
 use Prim.Native.Nat.{ℕ, suc, _+_, _<_, _≤_}
 use mathlib.Core.Path.{_≡_, refl}
-use mathlib.Core.Bool.{Bool, true, false}
+use mathlib.Core.Bool.{Bool, true, false, not, _&&_}
+use lib.Dec.{eqb, leb}
 use mathlib.Core.List.{List, [], _∷_, _++_, append-assoc}
 use lib.ListN.{length, getD}
 use native.Mathlib.Omega.{arith}
-use borrow.Author.Tests.{eq-eqb, ne-eqb}
+use borrow.Author.Tests.{eq-eqb, ne-eqb, eqb-false, leb-true, not-true}
 use Rattle.index.specs.declared.Kind.{Kind}
 use Rattle.index.specs.Letters.{letters, mayHave}
 use Rattle.index.specs.Text.{decimal, pieceOf, piecesOf}
 use Rattle.index.specs.work.Reading.{digit, readCount, readLetter, readCounts}
 use Rattle.index.specs.work.Reading.Parsed.{got}
+use Rattle.index.proofs.laws.Tests.{both}
 use Rattle.index.proofs.laws.text.Decimal.{first, digit-yes, digit-high, decimal-five, decimal-spelt, Spells}
 use Rattle.index.proofs.laws.text.Decimal.Spells.{spells}
 use Rattle.index.proofs.laws.text.ReadNumbers.{spells-complete}
@@ -65,9 +67,31 @@ abbrev Apart : List ℕ → Type 0
 Apart [] = Unit {0}
 Apart (l ∷ ls) = (60 ≤ l) × All (λ (x : ℕ). x ≡ l → ⊥) ls × Apart ls
 
+-- a test of it that computes
+abbrev otherTest : ℕ → List ℕ → Bool
+otherTest l [] = true
+otherTest l (x ∷ xs) = not (eqb x l) && otherTest l xs
+
+abbrev apartTest : List ℕ → Bool
+apartTest [] = true
+apartTest (l ∷ ls) = leb 60 l && (otherTest l ls && apartTest ls)
+
+other-test : (l : ℕ) (xs : List ℕ) → otherTest l xs ≡ true → All (λ (x : ℕ). x ≡ l → ⊥) xs
+other-test l [] e = tt
+other-test l (x ∷ xs) e =
+    let p = both (not (eqb x l)) (otherTest l xs) e in
+    (eqb-false x l (not-true (eqb x l) (p .0)), other-test l xs (p .1))
+
+apart-test : (ls : List ℕ) → apartTest ls ≡ true → Apart ls
+apart-test [] e = tt
+apart-test (l ∷ ls) e =
+    let p = both (leb 60 l) _ e in
+    let q = both (otherTest l ls) (apartTest ls) (p .1) in
+    (leb-true _ _ (p .0), other-test l ls (q .0), apart-test ls (q .1))
+
 pub letters-apart : Apart letters
 unfolding letters
-letters-apart = (omega arith, omega arith, (omega arith, omega arith, omega arith))
+letters-apart = apart-test letters refl
 
 -- what holds of each letter, and of what comes after, holds of the first byte
 first-of : (P : ℕ → Type 0) (ls cs r : List ℕ) → All P ls → P (first r) → P (first (piecesOf ls cs ++ r))

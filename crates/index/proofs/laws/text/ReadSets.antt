@@ -26,9 +26,9 @@ mark-complete : (r : List ℕ) → readMark (59 ∷ r) ≡ got 59 r
 unfolding readMark
 mark-complete r = refl
 
-pub eight-letters : length letters ≡ letterCount
+pub all-letters : length letters ≡ letterCount
 unfolding letters
-eight-letters = refl
+all-letters = refl
 
 entry-text : (e : Entry) (r : List ℕ) → entryText e ++ r ≡ decimal (e .id) ++ (59 ∷ (piecesOf letters (e .counts) ++ r))
 unfolding entryText
@@ -43,7 +43,7 @@ record-complete kind least e r h l k =
     (simp (
       number-complete least greatestName (e .id) (59 ∷ (piecesOf letters (e .counts) ++ r)) l (omega (arith, h .named)) (omega (arith, h .named)) (digit-high 59 (omega arith)),
       mark-complete,
-      counts-complete kind 0 letters (e .counts) r letters-apart (h .eight ∙ sym eight-letters) (h .fits) (λ j q. let z : 0 + j ≡ j = omega arith in h .allowed j (rw z at q)) k,
+      counts-complete kind 0 letters (e .counts) r letters-apart (h .long ∙ sym all-letters) (h .fits) (λ j q. let z : 0 + j ≡ j = omega arith in h .allowed j (rw z at q)) k,
       lt-ltb 0 (total (e .counts)) (some-total (e .counts) i g),
     ))
 

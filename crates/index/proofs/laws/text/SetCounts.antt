@@ -13,12 +13,12 @@ use Rattle.index.specs.Block.{key, id, from, size, countAt, countFrom, c
 use Rattle.index.specs.Text.{countsAt, entryAt, setFrom, setOf, countIn}
 use Rattle.index.proofs.laws.Range.{lt-or-le}
 use Rattle.index.proofs.laws.block.Bytes.{count-out}
-use Rattle.index.proofs.laws.text.Writes.{counts-eight, counts-each}
+use Rattle.index.proofs.laws.text.Writes.{counts-long, counts-each}
 
 pub counts-any : (b : List ℕ) (i k : ℕ) → getD (countsAt b i) k 0 ≡ countAt b i k
 counts-any b i k =
     ⊎-elim (λ h. counts-each b i k h)
-    (λ h. List·getD-eq-default (countsAt b i) 0 {n = k} (omega (arith, counts-eight b i)) ∙ sym (count-out b i k h))
+    (λ h. List·getD-eq-default (countsAt b i) 0 {n = k} (omega (arith, counts-long b i)) ∙ sym (count-out b i k h))
     (lt-or-le k letterCount)
 
 module _ (b : List ℕ) (x y k : ℕ) where

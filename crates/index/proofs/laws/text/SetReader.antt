@@ -17,7 +17,7 @@ use Rattle.index.proofs.laws.block.MayHave.{capital, not-both}
 use Rattle.index.proofs.laws.text.TakenApart.{and-inv, guard-inv, and-true, not-got}
 use Rattle.index.proofs.laws.text.Readers.{Begun, Tells, Reader, tells-as, tells-end, tells-byte, tells-next, reader-got, reader-wrong, reader-if, some, reads, reader-then, reader-give}
 use Rattle.index.proofs.laws.text.ReadLetters.{piece-none}
-use Rattle.index.proofs.laws.text.ReadSets.{eight-letters}
+use Rattle.index.proofs.laws.text.ReadSets.{all-letters}
 use Rattle.index.proofs.laws.text.NumberReader.{Number, number-reader}
 use Rattle.index.proofs.laws.text.LetterReader.{Counts, fair-cons, counts-reader}
 
@@ -78,7 +78,7 @@ module _ (kind : Kind) (least i : ℕ) (l : least ≤ i) (h : i ≤ greatestName
         text = ap (λ (x : List ℕ). decimal i ++ (59 ∷ x)) (c .0);
         entry = record {
           named = omega arith;
-          eight = c .1 .long ∙ eight-letters;
+          long = c .1 .long ∙ all-letters;
           fits = c .1 .fits;
           counted = total-some cs s;
           allowed = λ k n. let z : 0 + k ≡ k = omega arith in c .1 .none k (rw z n);

@@ -12,11 +12,11 @@ use Rattle.index.specs.Block.{place, Sized, Good, records, size, from, k
 use Rattle.index.specs.Text.{Entry, decimal, pieceOf, piecesOf, entryText, textOf, entryAt, setFrom, setOf, IsSet, Writes, Begins, Place}
 use Rattle.index.specs.work.Pieces.{nextText}
 use Rattle.index.specs.work.Written.{entriesFrom}
-use Rattle.index.specs.work.Longest.{fieldDigits, longestPiece, longestRecord, mostRecords, longestText}
+use Rattle.index.specs.work.Longest.{fieldDigits, longestPiece, longestRecord, longestText}
 use Rattle.index.proofs.laws.block.Bytes.{number-small, count-small}
 use Rattle.index.proofs.laws.text.Digits.{ten}
 use Rattle.index.proofs.laws.text.Decimal.{decimal-five}
-use Rattle.index.proofs.laws.block.Records.{gap-in}
+use Rattle.index.proofs.laws.block.Records.{few-records, gap-in}
 use Rattle.index.proofs.laws.text.SetCounts.{counts-any}
 use Rattle.index.proofs.laws.text.IsSet.{is-set}
 use Rattle.index.proofs.laws.text.ReadSets.{set-few}
@@ -105,10 +105,6 @@ set-bound b x i (suc n) = go (eqb (key b i) x) (set-bound b x (i + 1) n)
         → length (cond t (entryAt b i ∷ setFrom b x (i + 1) n) (setFrom b x (i + 1) n)) ≤ suc n
     go true h = omega arith
     go false h = omega arith
-
-pub few-records : {b : List ℕ} → Sized b → Good b → records b ≤ mostRecords
-unfolding Sized
-few-records s g = omega (arith, s .1, g .fits)
 
 pub set-text-bound : {b : List ℕ} → Sized b → Good b → (kind : Kind) (x : ℕ) → length (textOf (setOf b kind x)) ≤ longestText
 unfolding setOf

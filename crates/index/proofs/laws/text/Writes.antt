@@ -9,12 +9,11 @@ use native.Mathlib.Omega.{arith}
 use Rattle.index.proofs.laws.block.Stores.{sets-append}
 use Rattle.index.specs.Letters.{letterCount, letters}
 use Rattle.index.specs.Block.{countAt}
-use Rattle.index.specs.Text.{decimal, pieceOf, piecesOf, countsAt, entryAt}
+use Rattle.index.specs.Text.{decimal, pieceOf, piecesOf, countsFrom, countsAt, entryAt}
 use Rattle.index.specs.work.Pieces.{nextText, rest}
 use Rattle.index.specs.work.Written.{Puts, entriesFrom}
-use Rattle.index.proofs.laws.Range.{listed}
 use Rattle.index.proofs.laws.text.ReadLetters.{piece-none, piece-one, piece-many}
-use Rattle.index.proofs.laws.text.ReadSets.{eight-letters}
+use Rattle.index.proofs.laws.text.ReadSets.{all-letters}
 use Rattle.index.proofs.laws.text.SetText.{rest-next, rest-none}
 use Rattle.index.proofs.laws.text.ReadSteps.{front}
 
@@ -73,22 +72,32 @@ text-many l n h k = sym (piece-many l n (omega arith))
 abbrev pub todo : List ℕ → ℕ → List ℕ
 todo cs k = piecesOf (drop k letters) (drop k cs)
 
-pub counts-eight : (b : List ℕ) (i : ℕ) → length (countsAt b i) ≡ letterCount
-unfolding countsAt
-counts-eight b i = refl
+module _ (b : List ℕ) (i : ℕ) where
+  from-length : (k n : ℕ) → length (countsFrom b i k n) ≡ n
+  unfolding countsFrom
+  from-length k ℕ.zero = refl
+  from-length k (suc n) = ap suc (from-length (k + 1) n)
 
-pub counts-each : (b : List ℕ) (i k : ℕ) → k < letterCount → getD (countsAt b i) k 0 ≡ countAt b i k
-unfolding countsAt
-counts-each b i =
-    listed (λ k. getD (countsAt b i) k 0 ≡ countAt b i k) letterCount
-    (refl, (refl, (refl, (refl, (refl, (refl, (refl, (refl, tt))))))))
+  from-each : (k n j : ℕ) → j < n → getD (countsFrom b i k n) j 0 ≡ countAt b i (k + j)
+  unfolding countsFrom
+  from-each k ℕ.zero j h = absurd (omega arith)
+  from-each k (suc n) ℕ.zero h = let e : k + 0 ≡ k = omega arith in rw e
+  from-each k (suc n) (suc j) h = let e : k + suc j ≡ k + 1 + j = omega arith in rw e (from-each (k + 1) n j (omega arith))
+
+  pub counts-long : length (countsAt b i) ≡ letterCount
+  unfolding countsAt
+  counts-long = from-length 0 letterCount
+
+  pub counts-each : (k : ℕ) → k < letterCount → getD (countsAt b i) k 0 ≡ countAt b i k
+  unfolding countsAt
+  counts-each k h = let e : 0 + k ≡ k = omega arith in from-each 0 letterCount k h ∙ ap (countAt b i) e
 
 module _ (b : List ℕ) (i k : ℕ) where
   pub todo-step : k < letterCount → (n : ℕ) → n ≡ countAt b i k
       → todo (countsAt b i) k ≡ pieceOf (getD letters k 0) n ++ todo (countsAt b i) (k + 1)
   unfolding piecesOf
   todo-step h n e =
-      rw (front letters k (omega (arith, eight-letters)), front (countsAt b i) k (omega (arith, counts-eight b i)), counts-each b i k h, e)
+      rw (front letters k (omega (arith, all-letters)), front (countsAt b i) k (omega (arith, counts-long b i)), counts-each b i k h, e)
 
   pub todo-none : k ≡ letterCount → todo (countsAt b i) k ≡ []
   unfolding piecesOf letters

@@ -2,32 +2,31 @@
 use Prim.Native.Nat.{_+_, _-_, _/_, _≤_}
 use native.Mathlib.Omega.{arith}
 use borrow.Author.Needs.{needs}
-use Rattle.index.specs.Block.{Sized, from, size, records}
-use Rattle.index.proofs.laws.block.Records.{gap-in}
+use Rattle.index.specs.Block.{mostRecords, from, size, records}
+use Rattle.index.proofs.laws.block.Records.{few-records, gap-in}
 use Rattle.rights.proofs.laws.walk.Looking.{no-more, Window, window-all, halve, met}
 use Rattle.rights.proofs.lookup.lowest.Statement.{statement}
 use Rattle.rights.proofs.lookup.lowest.Tie as tie
 
 abbrev Inv-loop : tie.InvT-loop
 Inv-loop block name part low₀ window₀ low window =
-    (1 ≤ window) × (low + window ≤ part .from + 2048) × Window block (part .from) (part .end) name low window
+    (1 ≤ window) × (low + window ≤ part .from + mostRecords) × Window block (part .from) (part .end) name low window
 
 abbrev μ-loop : tie.MeasureT-loop
 μ-loop block name part low₀ window₀ low window = window
 
--- The part is one of the block's, which has room for 2,048 records.
-ends : (c : tie.After-part-of Inv-loop μ-loop) → (c .part-of .result .end ≤ records (c .before .before .args .block .now)) × (records (c .before .before .args .block .now) ≤ 2048)
-unfolding Sized
+-- The part is one of the block's, which has room for no more records.
+ends : (c : tie.After-part-of Inv-loop μ-loop) → (c .part-of .result .end ≤ records (c .before .before .args .block .now)) × (records (c .before .before .args .block .now) ≤ mostRecords)
 ends c =
     let start = c .before .before in
     let b = start .args .block .now in
     let kind = start .args .kind in
-    (omega (arith, c .part-of .ensures .last, gap-in kind b (from b kind + size b kind) (omega arith)), omega (arith, start .pre .0 .1, start .pre .1 .0 .fits))
+    (omega (arith, c .part-of .ensures .last, gap-in kind b (from b kind + size b kind) (omega arith)), few-records (start .pre .0) (start .pre .1 .0))
 
 loop-holds : tie.Need-loop-holds Inv-loop μ-loop
 loop-holds c =
     let part = c .part-of .result in
-    (omega arith, omega arith, window-all _ (part .from) (part .end) _ 2048 (omega (arith, ends c)))
+    (omega arith, omega arith, window-all _ (part .from) (part .end) _ mostRecords (omega (arith, ends c)))
 
 loop-again : tie.Need-loop-again Inv-loop μ-loop
 loop-again c =
