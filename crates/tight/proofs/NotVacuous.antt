@@ -28,7 +28,7 @@ use Rattle.tight.proofs.Mill.{made, first-given, both-withdrawn, held-b
 use mathlib.Core.Bool.{Bool, true, false}
 use Rattle.index.proofs.laws.message.Halves.{each-half, differ}
 use Rattle.index.proofs.laws.message.ListTests.{ownNeeds}
-use Rattle.index.proofs.laws.message.MessageTest.{letters-test}
+use Rattle.index.proofs.laws.message.MessageTest.{mask-test}
 use Rattle.tight.proofs.BlockTest.{blockTest, block-test}
 use Rattle.tight.proofs.ByDirectory.{message-lent, read-lent, write-lent, questions-lent, not-lent, made-directory, not-made, fine-nothing}
 
@@ -179,9 +179,9 @@ tests cs = All (ownNeeds cs)
 one-passes : tests (change true 2 9 2) × tests (change false 2 9 2) × tests (change true 2 10 2)
 unfolding IsKind packedKind packedHalf packed Named Masked kindOf mayHave
 one-passes = (
-  (((omega arith, omega arith), tt), (((omega arith, omega arith), tt), (((omega arith, letters-test (packedHalf (packed true 2 9 1 2)) refl), tt), tt))),
-  (((omega arith, omega arith), tt), (((omega arith, omega arith), tt), (((omega arith, letters-test (packedHalf (packed false 2 9 1 2)) refl), tt), tt))),
-  (((omega arith, omega arith), tt), (((omega arith, omega arith), tt), (((omega arith, letters-test (packedHalf (packed true 2 10 1 2)) refl), tt), tt))),
+  (((omega arith, omega arith), tt), (((omega arith, omega arith), tt), (((omega arith, mask-test (packedHalf (packed true 2 9 1 2)) refl), tt), tt))),
+  (((omega arith, omega arith), tt), (((omega arith, omega arith), tt), (((omega arith, mask-test (packedHalf (packed false 2 9 1 2)) refl), tt), tt))),
+  (((omega arith, omega arith), tt), (((omega arith, omega arith), tt), (((omega arith, mask-test (packedHalf (packed true 2 10 1 2)) refl), tt), tt))),
 )
 
 -- As the mill's messages: accepted, nothing to withdraw, no count left to add to, and no room.

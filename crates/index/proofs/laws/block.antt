@@ -4,7 +4,8 @@ pub mod Stores
 pub mod Filling
 pub mod Bytes
 pub mod Seen
--- Letters: which of them a kind may have.
+-- Letters: the rights in a mask, and which letters a kind may have.
+pub mod Masks
 pub mod MayHave
 -- Records: they rise, each is there once; where one is found.
 pub mod ThreeKinds
@@ -21,6 +22,5 @@ pub mod Empty
 pub mod Splice
 pub mod SpliceThen
 -- The doors: the net mask of a record, and one answer each.
-pub mod Masks
 pub mod Joining
 pub mod OneDoor

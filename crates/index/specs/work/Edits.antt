@@ -3,13 +3,14 @@ use Prim.Native.Nat.{ℕ, suc, _+_, _*_, _/_, _%_, _^_, _<_, _≤_}
 use mathlib.Core.Path.{_≡_}
 use mathlib.Core.Bool.{Bool, true, false, cond}
 use mathlib.Core.List.{List, [], _∷_}
+use mathlib.Core.Logic.{_↔_}
 use lib.Dec.{eqb}
 use lib.ListN.{length, getD}
 use Rattle.index.specs.declared.Kind.{Kind}
 use Rattle.index.specs.declared.block.places.Found.{Found}
 use Rattle.index.specs.declared.block.places.Found.the-variants as found
 use Rattle.index.specs.declared.Kind.the-variants.{Membership, Permission, Filter}
-use Rattle.index.specs.Letters.{letterCount, rightCount, mayHave}
+use Rattle.index.specs.Letters.{letterCount, rightCount, mayHave, In}
 use Rattle.index.specs.Block.{greatestCount, IsName, headerLength, greatestLength, recordLength, place, countAt, from, size, records, key, id, Of, Good}
 use Rattle.index.specs.work.Bytes.{Inside}
 use Rattle.index.specs.work.Checks.{Header}
@@ -17,6 +18,10 @@ use Rattle.index.specs.Numbers.{First}
 use Rattle.index.specs.Message.{IsKind, Half, halfCount, present, halfAt, WellFormed, Named, Masked, Change, Changed, ownCount, changeNeeds, packedKind, packedHalf, packedChange}
 use Rattle.index.specs.Message.Change.{take, add}
 use Rattle.index.specs.work.Places.{spot, At, Gap}
+
+-- r is the mask of the letters that a record of the kind may have.
+abbrev pub Letters : Kind → ℕ → Type 0
+Letters kind r = (k : ℕ) → In k r ↔ (mayHave kind k ≡ true)
 
 -- The counts of the four letters from k on, as one number.
 abbrev pub fourAt : List ℕ → ℕ → ℕ → ℕ

@@ -1,14 +1,15 @@
 // The table of the letters, used by writer, reader and net mask.
 
+use crate::ALL;
 use crate::Kind;
 use crate::LETTER_COUNT;
-use crate::RIGHTS;
 ghost use mathlib.Core.Path.{_≡_};
 ghost use mathlib.Core.Bool.{true};
 ghost use Prim.Native.Nat.{ℕ, _<_, _^_};
 ghost use lib.ListN.{length, getD};
 ghost use Rattle.index.specs.Letters.{letterCount, letters, In, mayHave};
 ghost use Rattle.index.specs.work.Checks.{Says};
+ghost use Rattle.index.specs.work.Edits.{Letters};
 
 // A letter of a set's text, with the mask of what it stands for.
 pub struct Letter {
@@ -99,27 +100,31 @@ pub(crate) fn letter_bytes() -> [u8; LETTER_COUNT]
     bytes
 }
 
-// A record of the kind may have letter k.
-pub(crate) fn may_have(kind: Kind, k: usize) -> bool
-    ensures { λ r. ⌜ r ≡ mayHave kind k ⌝ }
+// The mask of all letters.
+const EVERY: usize = (1 << LETTER_COUNT) - 1;
+
+// The mask of the letters that a record of the kind may have. Nothing else in the code says which they are.
+pub(crate) fn letters_of(kind: Kind) -> usize
+    ensures { λ r. ⌜ Letters kind r ⌝ }
 {
     match kind {
-        Kind::Membership => k < RIGHTS,
-        Kind::Permission => k < LETTER_COUNT,
-        Kind::Filter => k < RIGHTS,
+        Kind::Membership => ALL as usize,
+        Kind::Permission => EVERY,
+        Kind::Filter => ALL as usize,
     }
+}
+
+// It may have letter k.
+pub(crate) fn may_have(kind: Kind, k: usize) -> bool
+    requires { ⌜ k < letterCount ⌝ }
+    ensures { λ r. ⌜ r ≡ mayHave kind k ⌝ }
+{
+    (letters_of(kind) >> k) % 2 == 1
 }
 
 // It may have each letter of the mask.
 pub(crate) fn may_have_all(kind: Kind, mask: usize) -> bool
     ensures { λ r. ⌜ Says ((k : ℕ) → In k mask → mayHave kind k ≡ true) r ⌝ }
 {
-    let mut k = 0;
-    while k < LETTER_COUNT {
-        if ((mask >> k) % 2 == 1) & !may_have(kind, k) {
-            return false;
-        }
-        k += 1;
-    }
-    mask >> LETTER_COUNT == 0
+    mask & letters_of(kind) == mask
 }

@@ -4,7 +4,7 @@ use crate::GREATEST_NAME;
 use crate::Kind;
 use crate::LETTER_COUNT;
 use crate::block::letters::letter_bytes;
-use crate::block::letters::may_have;
+use crate::block::letters::letters_of;
 use crate::text::reading::Cursor;
 use crate::text::reading::Piece;
 use crate::text::reading::count;
@@ -47,11 +47,12 @@ fn counts(text: &[u8], c: Cursor, kind: Kind, out: &mut [usize; LETTER_COUNT]) -
     ensures { λ r. ⌜ length (now (out .exit)) ≡ letterCount ⌝ }
     ensures { λ r. ⌜ SeesLetters (now (text .entry)) r (now (out .exit)) (readCounts kind 0 letters (drop (c .at) (now (text .entry)))) ⌝ }
 {
+    let may = letters_of(kind);
     let bytes = letter_bytes();
     let mut here = c;
     let mut k = 0;
     while k < LETTER_COUNT {
-        let piece = counted(text, here, may_have(kind, k), bytes[k]);
+        let piece = counted(text, here, (may >> k) % 2 == 1, bytes[k]);
         let Piece::Number(n, next) = piece else {
             return piece;
         };

@@ -14,7 +14,7 @@ use Rattle.index.proofs.laws.Range.{lt-or-le}
 or-bit : (a b j : ℕ) → bitOr a b / 2 ^ j % 2 ≡ max (a / 2 ^ j % 2) (b / 2 ^ j % 2)
 or-bit a b j = rw (or-shr a b j) (omega (arith, or-step (a / 2 ^ j) (b / 2 ^ j)))
 
-and-bit : (a b j : ℕ) → bitAnd a b / 2 ^ j % 2 ≡ min (a / 2 ^ j % 2) (b / 2 ^ j % 2)
+pub and-bit : (a b j : ℕ) → bitAnd a b / 2 ^ j % 2 ≡ min (a / 2 ^ j % 2) (b / 2 ^ j % 2)
 and-bit a b j = rw (and-shr a b j) (omega (arith, and-step (a / 2 ^ j) (b / 2 ^ j)))
 
 -- A letter is in a mask or not.

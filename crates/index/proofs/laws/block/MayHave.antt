@@ -1,19 +1,21 @@
 -- Which letters a record of a kind may have, and whether it may have all letters of a mask.
 use Prim.Native.Nat.{ℕ, zero, suc, _+_, _*_, _/_, _%_, _^_, _<_, _≤_}
-use mathlib.Core.Path.{_≡_, refl, sym, ap, _∙_}
-use mathlib.Core.Bool.{Bool, true, false, not, _&&_}
-use mathlib.Core.Logic.{⊎-elim}
+use mathlib.Core.Path.{_≡_, refl, sym, ap, subst, _∙_}
+use mathlib.Core.Bool.{Bool, true, false, cond, _&&_}
+use mathlib.Core.Logic.{⊎-elim, _↔_}
 use native.Mathlib.Nat.{zero-div, div-eq-of-lt, div-one, div-div-eq-div-mul, pow-succ', pow-le-pow-right}
 use native.Mathlib.Omega.{arith}
-use borrow.Author.Tests.{ltb-true, le-ltb, lt-ltb, eqb-true, eqb-false, eq-eqb, not-true}
-use lib.Dec.{eqb}
+use borrow.Author.Tests.{ltb-true, le-ltb, lt-ltb, eqb-true, eqb-false, eq-eqb, ne-eqb}
+use lib.Bits.{bitAnd}
+use lib.Dec.{eqb, ltb}
 use Rattle.index.specs.declared.Kind.{Kind}
 use Rattle.index.specs.declared.Kind.the-variants.{Membership, Permission, Filter}
-use Rattle.index.specs.Letters.{letterCount, rightCount, mayHave, In}
+use Rattle.index.specs.Letters.{letterCount, rightCount, allRights, mayHave, In}
 use Rattle.index.specs.work.Checks.{Says}
-use Rattle.index.specs.work.Edits.{bit}
+use Rattle.index.specs.work.Edits.{Letters, bit}
 use Rattle.index.proofs.laws.Range.{lt-or-le}
-use Rattle.index.proofs.laws.Tests.{both}
+use Rattle.index.proofs.laws.Tests.{both, all, all-at}
+use Rattle.index.proofs.laws.block.Masks.{and-bit, in-and, in-or-out}
 
 -- ---- a letter
 
@@ -52,9 +54,8 @@ no-letter mask n k l h =
     let e : mask / 2 ^ k ≡ 0 = div-eq-of-lt (omega arith) in
     rw e
 
-next : (mask k : ℕ) → In k (mask / 2) → In (suc k) mask
-next mask k e =
-    ap (λ (n : ℕ). n % 2) (ap (λ (d : ℕ). mask / d) (pow-succ' 2 k) ∙ sym (div-div-eq-div-mul mask 2 (2 ^ k))) ∙ e
+bit-next : (mask k : ℕ) → bit mask (suc k) ≡ bit (mask / 2) k
+bit-next mask k = ap (λ (n : ℕ). n % 2) (ap (λ (d : ℕ). mask / d) (pow-succ' 2 k) ∙ sym (div-div-eq-div-mul mask 2 (2 ^ k)))
 
 pub some-letter : (mask : ℕ) → 0 < mask → (k : ℕ) × In k mask
 some-letter mask h = go mask mask (omega arith) h
@@ -63,7 +64,7 @@ some-letter mask h = go mask mask (omega arith) h
     go zero n l h = absurd (omega arith)
     go (suc f) n l h =
         ⊎-elim (λ (p : 0 < n % 2). (0, rw (div-one n) (omega arith)))
-        (λ (p : n % 2 ≤ 0). let (k, e) = go f (n / 2) (omega arith) (omega arith) in (suc k, next n k e))
+        (λ (p : n % 2 ≤ 0). let (k, e) = go f (n / 2) (omega arith) (omega arith) in (suc k, bit-next n k ∙ e))
         (lt-or-le 0 (n % 2))
 
 pub high-letter : (n mask : ℕ) → 2 ^ n ≤ mask → (k : ℕ) × (n ≤ k) × In k mask
@@ -71,7 +72,7 @@ high-letter zero mask l = let (k, e) = some-letter mask (omega arith) in (k, ome
 high-letter (suc n) mask l =
     let p = pow-succ' 2 n in
     let (k, m, e) = high-letter n (mask / 2) (omega arith) in
-    (suc k, omega arith, next mask k e)
+    (suc k, omega arith, bit-next mask k ∙ e)
 
 abbrev pub AllMay : Kind → ℕ → Type 0
 AllMay kind mask = (k : ℕ) → In k mask → mayHave kind k ≡ true
@@ -86,26 +87,68 @@ all-below kind mask all =
     ⊎-elim (λ h. h) (λ h. let (k, l, e) = high-letter letterCount mask h in absurd (omega (arith, l, below kind k (all k e))))
     (lt-or-le mask (2 ^ letterCount))
 
--- The test of one letter, where r says whether the kind may have it.
-pub may-one : (kind : Kind) (mask k : ℕ) (r : Bool) → r ≡ mayHave kind k → (eqb (bit mask k) 1 && not r) ≡ false → In k mask
-    → mayHave kind k ≡ true
-may-one kind mask k true e n i = sym e
-may-one kind mask k false e n i = let f = rw (eq-eqb _ _ i) at n in let z : _≡_ {A = ℕ} 0 1 = cc in absurd (omega arith)
+-- ---- the mask of the letters that a kind may have
 
-pub may-not-one : (kind : Kind) (mask k : ℕ) (r : Bool) → r ≡ mayHave kind k → (eqb (bit mask k) 1 && not r) ≡ true → AllMay kind mask → ⊥
-may-not-one kind mask k r e n all =
-    let p = both (eqb (bit mask k) 1) (not r) n in
-    not-both kind k (sym e ∙ not-true r (p .1)) (all k (eqb-true _ _ (p .0)))
+-- A test of it that computes.
+abbrev pub lettersTest : Kind → ℕ → Bool
+lettersTest kind r = ltb r (2 ^ letterCount) && all (λ k. eqb (bit r k) (cond (mayHave kind k) 1 0)) 0 letterCount
 
--- The test of the whole, after those of its letters.
-pub all-says : (kind : Kind) (mask : ℕ) → ((k : ℕ) → k < letterCount → In k mask → mayHave kind k ≡ true)
-    → Says (AllMay kind mask) (eqb (mask / 2 ^ letterCount) 0)
-all-says kind mask each = go (eqb (mask / 2 ^ letterCount) 0) refl
+pub letters-test : (kind : Kind) (r : ℕ) → lettersTest kind r ≡ true → Letters kind r
+letters-test kind r e k =
+    let same : ℕ → Bool = λ k. eqb (bit r k) (cond (mayHave kind k) 1 0) in
+    let p = both (ltb r (2 ^ letterCount)) (all same 0 letterCount) e in
+    ⊎-elim
+    (λ h. go (mayHave kind k) (eqb-true _ _ (all-at same 0 letterCount (p .1) k (omega arith) h)))
+    (λ h. (
+      λ i. absurd (omega (arith, i, no-letter r letterCount k (ltb-true _ _ (p .0)) h)),
+      λ m. absurd (omega (arith, h, below kind k m)),
+    ))
+    (lt-or-le k letterCount)
   where
-    go : (t : Bool) → eqb (mask / 2 ^ letterCount) 0 ≡ t → Says (AllMay kind mask) t
-    go true e = let z : mask / 2 ^ letterCount ≡ 0 = eqb-true _ _ e in all-may kind mask (omega arith) each
-    go false e = λ all. eqb-false _ _ e (div-eq-of-lt (all-below kind mask all))
+    go : (t : Bool) → bit r k ≡ cond t 1 0 → In k r ↔ (t ≡ true)
+    go true z = (λ i. refl, λ m. z)
+    go false z = (λ i. absurd (omega arith), λ m. let y : _≡_ {A = ℕ} 0 1 = cc in absurd (omega arith))
+
+-- The bit of a letter in it is the test of kind and letter.
+pub bit-may : (kind : Kind) (r : ℕ) → Letters kind r → (k : ℕ) → eqb (bit r k) 1 ≡ mayHave kind k
+bit-may kind r are k = go (mayHave kind k) refl
+  where
+    go : (t : Bool) → mayHave kind k ≡ t → eqb (bit r k) 1 ≡ t
+    go true e = eq-eqb _ _ (are k .1 e)
+    go false e = ne-eqb _ _ (λ i. not-both kind k e (are k .0 i))
+
+-- Numbers with the same bits are equal.
+same-bits : (a b : ℕ) → ((k : ℕ) → bit a k ≡ bit b k) → a ≡ b
+same-bits a b same = go (a + b) a b (omega arith) (omega arith) same
+  where
+    go : (f a b : ℕ) → a ≤ f → b ≤ f → ((k : ℕ) → bit a k ≡ bit b k) → a ≡ b
+    go zero a b l h same = omega arith
+    go (suc f) a b l h same =
+        let z : a % 2 ≡ b % 2 = rw (div-one a, div-one b) at (same 0) in
+        let q : a / 2 ≡ b / 2 = go f (a / 2) (b / 2) (omega arith) (omega arith) (λ k. sym (bit-next a k) ∙ same (suc k) ∙ bit-next b k) in
+        omega arith
+
+-- The test of a whole mask.
+pub all-says : (kind : Kind) (r : ℕ) → Letters kind r → (mask : ℕ) → Says (AllMay kind mask) (eqb (bitAnd mask r) mask)
+all-says kind r are mask = go (eqb (bitAnd mask r) mask) refl
+  where
+    go : (t : Bool) → eqb (bitAnd mask r) mask ≡ t → Says (AllMay kind mask) t
+    go true e = λ k i. are k .0 (in-and mask r k .0 (subst (In k) (sym (eqb-true (bitAnd mask r) mask e)) i) .1)
+    go false e = λ all. eqb-false _ _ e (same-bits (bitAnd mask r) mask (λ k.
+        ⊎-elim (λ o. omega (arith, o, and-bit mask r k)) (λ i. omega (arith, i, in-and mask r k .1 (i, are k .1 (all k i)))) (in-or-out k mask)))
 
 -- A letter that the kind may not have is not in the mask.
 pub not-in : (kind : Kind) (mask : ℕ) → AllMay kind mask → (k : ℕ) → mayHave kind k ≡ false → bit mask k ≡ 0
 not-in kind mask all k n = ⊎-elim (λ h. not-both kind k n (all k (omega arith))) (λ h. omega arith) (lt-or-le 0 (bit mask k))
+
+-- As a number: a kind that may not have the small letters, M or F, may have the letters of the masks up to 15, and of no mask "above 15".
+pub above-fifteen : (kind : Kind) (mask : ℕ) → mayHave kind rightCount ≡ false → AllMay kind mask ↔ (mask ≤ allRights)
+above-fifteen kind mask n = (
+  λ all.
+      ⊎-elim (λ h. omega arith)
+      (λ h. let (k, l, e) = high-letter rightCount mask h in not-both kind k (no-small kind n k l) (all k e))
+      (lt-or-le mask (2 ^ rightCount)),
+  λ l k e.
+      ⊎-elim (λ h. capital kind k h) (λ h. absurd (omega (arith, e, no-letter mask rightCount k (omega arith) h)))
+      (lt-or-le k rightCount),
+)

@@ -105,11 +105,11 @@ form-test m e =
       absent = each-half (λ h. present m h ≡ false → Blank m h) (blank-test m 0 (u .0)) (blank-test m 1 (u .1));
     }
 
-abbrev pub lettersTest : Half → Bool
-lettersTest h = ltb (h .mask) (2 ^ letterCount) && all (λ k. ltb (bit (h .mask) k) 1 || mayHave (h .kind) k) 0 letterCount
+abbrev pub maskTest : Half → Bool
+maskTest h = ltb (h .mask) (2 ^ letterCount) && all (λ k. ltb (bit (h .mask) k) 1 || mayHave (h .kind) k) 0 letterCount
 
-pub letters-test : (h : Half) → lettersTest h ≡ true → AllMay (h .kind) (h .mask)
-letters-test h e =
+pub mask-test : (h : Half) → maskTest h ≡ true → AllMay (h .kind) (h .mask)
+mask-test h e =
     let may : ℕ → Bool = λ k. ltb (bit (h .mask) k) 1 || mayHave (h .kind) k in
     let p = both (ltb (h .mask) (2 ^ letterCount)) (all may 0 letterCount) e in
     all-may (h .kind) (h .mask) (ltb-true _ _ (p .0))
@@ -119,7 +119,7 @@ abbrev halvesTest : List Half → Bool
 halvesTest [] = true
 halvesTest (h ∷ hs) =
     ltb (h .key) nameCount
-    && (ltb (h .id) nameCount && (ltb 0 (h .mask) && (lettersTest h && halvesTest hs)))
+    && (ltb (h .id) nameCount && (ltb 0 (h .mask) && (maskTest h && halvesTest hs)))
 
 halves-test : (hs : List Half) → halvesTest hs ≡ true → Each Named hs × Each Masked hs
 unfolding Named Masked
@@ -128,9 +128,9 @@ halves-test (h ∷ hs) e =
     let p = both (ltb (h .key) nameCount) _ e in
     let q = both (ltb (h .id) nameCount) _ (p .1) in
     let r = both (ltb 0 (h .mask)) _ (q .1) in
-    let s = both (lettersTest h) (halvesTest hs) (r .1) in
+    let s = both (maskTest h) (halvesTest hs) (r .1) in
     let w = halves-test hs (s .1) in
-    (((ltb-true _ _ (p .0), ltb-true _ _ (q .0)), w .0), ((ltb-true _ _ (r .0), letters-test h (s .0)), w .1))
+    (((ltb-true _ _ (p .0), ltb-true _ _ (q .0)), w .0), ((ltb-true _ _ (r .0), mask-test h (s .0)), w .1))
 
 abbrev pub messageTest : List ℕ → List ℕ → List (List ℕ) → Bool
 messageTest b m ds =

@@ -1,14 +1,16 @@
 -- `index::text::entries::counts` meets its contract. The loop: what the whole reading finds is what reading on from letter k finds, after the counts in `out`.
 use Prim.Native.Nat.{ℕ, _≤_, _-_}
-use mathlib.Core.Bool.{Bool}
 use mathlib.Core.Path.{_≡_, sym, ap, _∙_}
 use denote.Ref.{now}
 use native.Mathlib.Omega.{arith}
+use lib.Dec.{eqb}
 use lib.ListN.{length, drop, getD, length-set}
 use mathlib.Core.List.{List}
 use Rattle.index.specs.declared.Kind.{Kind}
 use Rattle.index.specs.Letters.{letterCount, letters, mayHave}
+use Rattle.index.specs.work.Edits.{Letters, bit}
 use Rattle.index.specs.work.Reading.{readLetter, readCounts}
+use Rattle.index.proofs.laws.block.MayHave.{bit-may}
 use Rattle.index.proofs.laws.text.ReadSteps.{after, after-none, after-wrong, after-more, after-all}
 use Rattle.index.proofs.laws.text.HandedOn.{is-number, no-number}
 use borrow.Author.Needs.{needs}
@@ -16,53 +18,60 @@ use Rattle.index.proofs.text.entries.counts.Statement.{statement}
 use Rattle.index.proofs.text.entries.counts.Tie as tie
 
 abbrev Inv-loop : tie.InvT-loop
-Inv-loop text kind out₀ bytes here₀ k₀ out here k =
+Inv-loop text out₀ may bytes here₀ k₀ out here k =
     (k ≤ letterCount) × (length out ≡ letterCount)
-    × (readCounts kind 0 letters (drop (here₀ .at) text) ≡ after out k (readCounts kind k (drop k letters) (drop (here .at) text)))
+    × ((K : Kind) → Letters K may
+    → readCounts K 0 letters (drop (here₀ .at) text) ≡ after out k (readCounts K k (drop k letters) (drop (here .at) text)))
 
 abbrev μ-loop : tie.MeasureT-loop
-μ-loop text kind out₀ bytes here₀ k₀ out here k = letterCount - k
+μ-loop text out₀ may bytes here₀ k₀ out here k = letterCount - k
 
 loop-holds : tie.Need-loop-holds Inv-loop μ-loop
 loop-holds c =
-    let s = c .before .before in
-    let t : List ℕ = drop (s .args .c .at) (now (s .args .text)) in
-    (omega arith, s .pre, after-none (now (s .args .out)) (readCounts (s .args .kind) 0 letters t))
+    let s = c .before .before .before in
+    (omega arith, s .pre, λ K are. after-none (now (s .args .out)) (readCounts K 0 letters (drop (s .args .c .at) (now (s .args .text)))))
 
 array-read-counted : tie.Need-array-read-counted Inv-loop μ-loop
-array-read-counted c = omega (arith, c .before .loop-test .taken, c .before .before .before .letter-bytes .ensures .0)
+array-read-counted c = omega (arith, c .loop-test .taken, c .before .before .letter-bytes .ensures .0)
 
 -- What `counted` sees is what reading letter k finds.
-letter : (kind : Kind) (k : ℕ) {r : Bool} {byte : ℕ} (t : List ℕ) → r ≡ mayHave kind k → byte ≡ getD letters k 0
-    → readLetter r byte t ≡ readLetter (mayHave kind k) (getD letters k 0) t
-letter kind k t may is = rw (may, is)
+letter : (K : Kind) (may k : ℕ) {byte : ℕ} (t : List ℕ) → Letters K may → byte ≡ getD letters k 0
+    → readLetter (eqb (bit may k) 1) byte t ≡ readLetter (mayHave K k) (getD letters k 0) t
+letter K may k t are is = rw (bit-may K may are k, is)
 
 returns : tie.Need-returns Inv-loop μ-loop
 returns c =
     let a = c .before .before .before .before .before .before .before .args in
-    let l = c .before .before .before .before .loop in
-    let h = c .before .before .before .loop-test .taken in
-    let is = c .before .before .before .before .before .letter-bytes .ensures .1 (l .k) h in
+    let may = c .before .before .before .before .before .letters-of in
+    let l = c .before .before .before .loop in
+    let h = c .before .before .loop-test .taken in
+    let is = c .before .before .before .before .letter-bytes .ensures .1 (l .k) h in
     let w = no-number (now (a .text)) (c .before .counted .result) _ (c .match .keys2) (c .before .counted .ensures) in (
       l .inv .1,
-      rw (w .1) (l .inv .2 ∙ after-wrong (l .out) _ (l .k) h _ _ (sym (letter (a .kind) (l .k) _ (c .before .before .may-have .ensures) is) ∙ w .2)),
+      rw (w .1)
+          (l .inv .2 (a .kind) (may .ensures)
+          ∙ after-wrong (l .out) _ (l .k) h _ _ (sym (letter (a .kind) (may .result) (l .k) _ (may .ensures) is) ∙ w .2)),
     )
 
 loop-again : tie.Need-loop-again Inv-loop μ-loop
 loop-again c =
     let a = c .before .before .before .before .before .before .before .before .before .args in
-    let l = c .before .before .before .before .before .before .loop in
-    let h = c .before .before .before .before .before .loop-test .taken in
-    let is = c .before .before .before .before .before .before .before .letter-bytes .ensures .1 (l .k) h in (
+    let l = c .before .before .before .before .before .loop in
+    let h = c .before .before .before .before .loop-test .taken in
+    let is = c .before .before .before .before .before .before .letter-bytes .ensures .1 (l .k) h in (
       omega arith,
       simp length-set (l .inv .1),
-      l .inv .2 ∙ after-more (l .out) _ (l .k) h _ _ _ (l .inv .1)
-          (sym (letter (a .kind) (l .k) _ (c .before .before .before .before .may-have .ensures) is)
+      λ K are.
+          l .inv .2 K are ∙ after-more (l .out) _ (l .k) h _ _ _ (l .inv .1)
+          (sym (letter K (c .before .before .before .before .before .before .before .letters-of .result) (l .k) _ are is)
           ∙ is-number (now (a .text)) (c .before .piece .given .1) (c .before .before .before .counted .ensures)),
     )
 
 returns-2 : tie.Need-returns-2 Inv-loop μ-loop
-returns-2 c = let l = c .before .loop in (l .inv .1, l .inv .2 ∙ after-all (l .out) _ (l .k) _ (l .inv .1) (omega arith))
+returns-2 c =
+    let a = c .before .before .before .before .before .args in
+    let l = c .before .loop in
+    (l .inv .1, l .inv .2 (a .kind) (c .before .before .before .letters-of .ensures) ∙ after-all (l .out) _ (l .k) _ (l .inv .1) (omega arith))
 
 pub counts-spec : {M : Type 1} → statement M
 counts-spec =
@@ -71,8 +80,9 @@ counts-spec =
     Inv-loop
     μ-loop
     (λ c κs. search needs)
-    loop-holds
     (λ c κs. search needs)
+    loop-holds
+    (λ c. search needs)
     array-read-counted
     (λ c κs. search needs)
     (λ c. search needs)
