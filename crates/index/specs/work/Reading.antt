@@ -1,12 +1,14 @@
 -- For proofs only: 01, "The text of a set", read from the front, piece by piece: an id, `;`, a letter, a count. Each reading
 -- says what stands at the front of the bytes and which bytes are left after it, or that it is wrong, and from which byte on.
 -- That what `textOf` writes is read so is shown in laws/text/ReadSets, and what each reading tells in laws/text/SetReader.
-use Prim.Native.Nat.{ℕ, suc, _+_, _-_, _*_}
+use Prim.Native.Nat.{ℕ, suc, _+_, _-_, _*_, _<_}
+use mathlib.Core.Path.{_≡_}
 use mathlib.Core.Bool.{Bool, true, false, cond, _&&_}
 use mathlib.Core.List.{List, [], _∷_}
 use lib.Dec.{eqb, ltb, leb}
+use lib.ListN.{getD}
 use Rattle.index.specs.declared.Kind.{Kind}
-use Rattle.index.specs.Letters.{letters, mayHave}
+use Rattle.index.specs.Letters.{letterCount, letters, mayHave}
 use Rattle.index.specs.Text.{Entry}
 use Rattle.index.specs.Block.{greatestCount, greatestName, nameCount}
 
@@ -61,6 +63,16 @@ readCount (b ∷ t) = cond (digit b) (readNumber 2 greatestCount (b ∷ t)) (got
 unfoldable pub readLetter : Bool → ℕ → List ℕ → Parsed ℕ
 readLetter may l [] = got 0 []
 readLetter may l (b ∷ t) = cond (may && eqb b l) (readCount t) (got 0 (b ∷ t))
+
+-- The byte of letter k, if a record of the kind may have it, and else a number that no byte is.
+abbrev pub noByte : ℕ
+noByte = 256
+
+abbrev pub byteOf : Kind → ℕ → ℕ
+byteOf kind k = cond (mayHave kind k) (getD letters k 0) noByte
+
+abbrev pub BytesOf : Kind → List ℕ → Type 0
+BytesOf kind bytes = (k : ℕ) → k < letterCount → getD bytes k 0 ≡ byteOf kind k
 
 -- The counts of the letters ls, in their order, the first of which is letter k.
 unfoldable pub readCounts : Kind → ℕ → List ℕ → List ℕ → Parsed (List ℕ)

@@ -10,6 +10,7 @@ ghost use lib.ListN.{length, getD};
 ghost use Rattle.index.specs.Letters.{letterCount, letters, In, mayHave};
 ghost use Rattle.index.specs.work.Checks.{Says};
 ghost use Rattle.index.specs.work.Edits.{Letters};
+ghost use Rattle.index.specs.work.Reading.{byteOf, BytesOf};
 
 // A letter of a set's text, with the mask of what it stands for.
 pub struct Letter {
@@ -86,20 +87,6 @@ pub(crate) fn mask_of(k: u8) -> u8
     letter.mask
 }
 
-// The bytes of all letters. A reader takes them from the table once, since taking an entry copies the table.
-pub(crate) fn letter_bytes() -> [u8; LETTER_COUNT]
-    ensures { λ r. ⌜ (length r ≡ letterCount) × ((k : ℕ) → k < letterCount → getD r k 0 ≡ getD letters k 0) ⌝ }
-{
-    let mut bytes = [0u8; LETTER_COUNT];
-    let mut k = 0;
-    while k < LETTER_COUNT {
-        let letter = letter_at(k);
-        bytes[k] = letter.byte;
-        k += 1;
-    }
-    bytes
-}
-
 // The mask of all letters.
 const EVERY: usize = (1 << LETTER_COUNT) - 1;
 
@@ -127,4 +114,32 @@ pub(crate) fn may_have_all(kind: Kind, mask: usize) -> bool
     ensures { λ r. ⌜ Says ((k : ℕ) → In k mask → mayHave kind k ≡ true) r ⌝ }
 {
     mask & letters_of(kind) == mask
+}
+
+// No byte is this number.
+const NO_BYTE: u16 = 256;
+
+// The byte of letter k, if a record of the kind may have it.
+fn byte_of(kind: Kind, k: usize) -> u16
+    requires { ⌜ k < letterCount ⌝ }
+    ensures { λ r. ⌜ r ≡ byteOf kind k ⌝ }
+{
+    if may_have(kind, k) {
+        let letter = letter_at(k);
+        return letter.byte as u16;
+    }
+    NO_BYTE
+}
+
+// The bytes of all letters, as a record of the kind may have them. A reader takes them from the table once, since taking an entry copies the table.
+pub(crate) fn letter_bytes(kind: Kind) -> [u16; LETTER_COUNT]
+    ensures { λ r. ⌜ (length r ≡ letterCount) × BytesOf kind r ⌝ }
+{
+    let mut bytes = [NO_BYTE; LETTER_COUNT];
+    let mut k = 0;
+    while k < LETTER_COUNT {
+        bytes[k] = byte_of(kind, k);
+        k += 1;
+    }
+    bytes
 }

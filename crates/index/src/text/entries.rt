@@ -4,37 +4,34 @@ use crate::GREATEST_NAME;
 use crate::Kind;
 use crate::LETTER_COUNT;
 use crate::block::letters::letter_bytes;
-use crate::block::letters::letters_of;
 use crate::text::reading::Cursor;
 use crate::text::reading::Piece;
 use crate::text::reading::count;
 use crate::text::reading::mark;
 use crate::text::reading::number;
 ghost use mathlib.Core.Path.{_≡_};
-ghost use Prim.Native.Nat.{_<_};
-ghost use mathlib.Core.Bool.{true};
+ghost use Prim.Native.Nat.{ℕ, _<_};
+ghost use mathlib.Core.Bool.{Bool, true, cond};
 ghost use mathlib.Core.List.{List, _∷_};
 ghost use lib.Dec.{ltb};
 ghost use lib.ListN.{length, drop};
 ghost use Rattle.index.specs.Block.{IsName};
 ghost use Rattle.index.specs.Letters.{letterCount, letters};
 ghost use Rattle.index.specs.Text.{Entry, IsSet};
-ghost use Rattle.index.specs.work.Reading.{readLetter, readCounts, total, readRecord};
+ghost use Rattle.index.specs.work.Reading.{noByte, readLetter, readCounts, total, readRecord};
 ghost use Rattle.index.specs.work.Reading.Parsed.{got};
 ghost use Rattle.index.specs.work.Pieces.{SeesNumber, SeesLetters, SeesEntry, rest};
 
-// The count of the letter with this byte at the cursor; 0 where it does not stand there, or may not.
-fn counted(text: &[u8], c: Cursor, may: bool, byte: u8) -> Piece
-    ensures { λ r. ⌜ SeesNumber (now (text .entry)) r (readLetter may byte (drop (c .at) (now (text .entry)))) ⌝ }
+// The count of the letter with this byte at the cursor, or of one that may not stand there, with a number that no byte is; 0 where it does not
+// stand there.
+fn counted(text: &[u8], c: Cursor, byte: u16) -> Piece
+    ensures { λ r. ⌜ ((may : Bool) (l : ℕ) → byte ≡ cond may l noByte → SeesNumber (now (text .entry)) r (readLetter may l (drop (c .at) (now (text .entry))))) ⌝ }
 {
     let at = c.at;
     if text.len() <= at {
         return Piece::Number(0, c);
     }
-    if !may {
-        return Piece::Number(0, c);
-    }
-    if text[at] == byte {
+    if text[at] as u16 == byte {
         count(text, Cursor { at: at + 1 })
     } else {
         Piece::Number(0, c)
@@ -47,12 +44,11 @@ fn counts(text: &[u8], c: Cursor, kind: Kind, out: &mut [usize; LETTER_COUNT]) -
     ensures { λ r. ⌜ length (now (out .exit)) ≡ letterCount ⌝ }
     ensures { λ r. ⌜ SeesLetters (now (text .entry)) r (now (out .exit)) (readCounts kind 0 letters (drop (c .at) (now (text .entry)))) ⌝ }
 {
-    let may = letters_of(kind);
-    let bytes = letter_bytes();
+    let bytes = letter_bytes(kind);
     let mut here = c;
     let mut k = 0;
     while k < LETTER_COUNT {
-        let piece = counted(text, here, (may >> k) % 2 == 1, bytes[k]);
+        let piece = counted(text, here, bytes[k]);
         let Piece::Number(n, next) = piece else {
             return piece;
         };

@@ -1,7 +1,7 @@
 -- Steps of the readings at a place of a text.
 use Prim.Native.Nat.{ℕ, suc, _+_, _-_, _*_, _<_, _≤_}
 use mathlib.Core.Path.{_≡_, refl, sym, ap, _∙_}
-use mathlib.Core.Bool.{Bool, true, false, _&&_}
+use mathlib.Core.Bool.{Bool, true, false, cond, _&&_}
 use mathlib.Core.List.{List, [], _∷_, _++_, append-assoc, append-nil}
 use lib.ListN.{length, take, drop, getD, set, drop-of-length-le}
 use lib.Seq.{drop-cons, take-suc-set, take-all}
@@ -10,7 +10,7 @@ use Rattle.index.specs.Letters.{letterCount, letters, mayHave}
 use lib.Dec.{leb}
 use native.Mathlib.Numerals.{add-one}
 use borrow.Author.Tests.{le-leb, lt-leb, eq-eqb, ne-eqb}
-use Rattle.index.specs.work.Reading.{Parsed, andThen, digit, reaches, begins, ends, readDigits, readNumber, readCount, readLetter, readCounts, readMark, total}
+use Rattle.index.specs.work.Reading.{Parsed, andThen, digit, reaches, begins, ends, readDigits, readNumber, readCount, noByte, readLetter, readCounts, readMark, total}
 use native.Mathlib.Omega.{arith}
 use Rattle.index.specs.work.Reading.Parsed.{got, wrong}
 use Rattle.index.specs.Block.{greatestCount}
@@ -120,17 +120,22 @@ module _ (t : List ℕ) (at : ℕ) where
     unfolding readLetter
     letter-end h = rw (end h)
 
-    pub letter-shut : at < length t → may ≡ false → readLetter may l (drop at t) ≡ got 0 (drop at t)
+    -- The byte there is that of the letter, if it may stand there.
+    pub letter-byte : at < length t → getD t at 0 < noByte → getD t at 0 ≡ cond may l noByte → readLetter may l (drop at t) ≡ readCount (drop (at + 1) t)
     unfolding readLetter
-    letter-shut h e = rw (front h) (simp e)
+    letter-byte h s e = go may e
+      where
+        go : (m : Bool) → getD t at 0 ≡ cond m l noByte → readLetter m l (drop at t) ≡ readCount (drop (at + 1) t)
+        go true e = rw (front h) (simp (eq-eqb _ _ e))
+        go false e = absurd (omega arith)
 
-    pub letter-there : at < length t → may ≡ true → getD t at 0 ≡ l → readLetter may l (drop at t) ≡ readCount (drop (at + 1) t)
+    pub letter-other : at < length t → (getD t at 0 ≡ cond may l noByte → ⊥) → readLetter may l (drop at t) ≡ got 0 (drop at t)
     unfolding readLetter
-    letter-there h m e = rw (front h) (simp (m, eq-eqb _ _ e))
-
-    pub letter-none : at < length t → may ≡ true → (getD t at 0 ≡ l → ⊥) → readLetter may l (drop at t) ≡ got 0 (drop at t)
-    unfolding readLetter
-    letter-none h m e = rw (front h) (simp (m, ne-eqb _ _ e))
+    letter-other h n = go may n
+      where
+        go : (m : Bool) → (getD t at 0 ≡ cond m l noByte → ⊥) → readLetter m l (drop at t) ≡ got 0 (drop at t)
+        go true n = rw (front h) (simp (ne-eqb _ _ n))
+        go false n = rw (front h)
 
   -- ---- `;`
   pub mark-end : length t ≤ at → readMark (drop at t) ≡ wrong (drop at t)

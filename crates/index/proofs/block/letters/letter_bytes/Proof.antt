@@ -4,17 +4,18 @@ use mathlib.Core.Path.{_≡_, refl}
 use native.Mathlib.Omega.{arith}
 use borrow.Author.Needs.{needs}
 use lib.ListN.{length, getD, length-set}
-use Rattle.index.specs.Letters.{letterCount, letters}
+use Rattle.index.specs.Letters.{letterCount}
+use Rattle.index.specs.work.Reading.{byteOf}
 use Rattle.index.proofs.laws.Range.{set-below}
 use Rattle.index.proofs.block.letters.letter_bytes.Statement.{statement}
 use Rattle.index.proofs.block.letters.letter_bytes.Tie as tie
 
 abbrev Inv-loop : tie.InvT-loop
-Inv-loop bytes₀ k₀ bytes k =
-    (k ≤ letterCount) × (length bytes ≡ letterCount) × ((j : ℕ) → j < k → getD bytes j 0 ≡ getD letters j 0)
+Inv-loop kind bytes₀ k₀ bytes k =
+    (k ≤ letterCount) × (length bytes ≡ letterCount) × ((j : ℕ) → j < k → getD bytes j 0 ≡ byteOf kind j)
 
 abbrev μ-loop : tie.MeasureT-loop
-μ-loop bytes₀ k₀ bytes k = letterCount - k
+μ-loop kind bytes₀ k₀ bytes k = letterCount - k
 
 loop-holds : tie.Need-loop-holds Inv-loop μ-loop
 loop-holds c = (omega arith, refl, λ j h. absurd (omega arith))
@@ -25,7 +26,7 @@ loop-again c =
     let h = c .before .loop-test .taken in (
       omega arith,
       simp length-set (l .inv .1),
-      set-below (l .bytes) (λ j. getD letters j 0) (l .k) _ (omega (arith, l .inv .1)) (l .inv .2) (c .letter-at .ensures .1),
+      set-below (l .bytes) (byteOf (c .before .before .before .args .kind)) (l .k) _ (omega (arith, l .inv .1)) (l .inv .2) (c .byte-of .ensures),
     )
 
 returns : tie.Need-returns Inv-loop μ-loop
@@ -39,6 +40,7 @@ letter-bytes-spec =
     μ-loop
     loop-holds
     (λ c κs. search needs)
+    (λ c. search needs)
     (λ c. search needs)
     (λ c. search needs)
     (λ c. search needs)
