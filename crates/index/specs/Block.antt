@@ -11,7 +11,7 @@ use Rattle.index.specs.declared.Kind.{Kind}
 use Rattle.index.specs.declared.Kind.the-variants.{Membership, Permission, Filter}
 use Rattle.index.specs.Letters.{letterCount, rightCount, mayHave}
 
--- "Names are numbers 0 to 1023."
+-- "Names are numbers 0 to 1023. Name 0 is the group of all resources (v-s:AllResourcesGroup)."
 abbrev pub nameCount : ℕ
 nameCount = 1024
 
@@ -40,6 +40,9 @@ unfoldable pub Sized : List ℕ → Type 0
 Sized b = (headerLength ≤ length b) × (length b ≤ greatestLength)
 
 -- ---- the header
+
+-- "M (membership): the key is a member of the group id." "P (permission): id is granted or denied rights on key." "F (filter): the filter
+-- named id bounds the object or group key."
 
 -- "the numbers of M, P and F records at bytes 0, 2, 4"
 abbrev pub size : List ℕ → Kind → ℕ

@@ -44,6 +44,7 @@ halfCount = 2
 abbrev pub halfLength : ℕ
 halfLength = 5
 
+-- Its first two bytes.
 unfoldable pub kindIn : List ℕ → ℕ
 kindIn m = getD m 0 0
 
@@ -58,12 +59,13 @@ present m h = eqb (flags m / 2 ^ h % 2) 1
 abbrev pub halfPlace : ℕ → ℕ
 halfPlace h = 2 + halfLength * h
 
+-- "key (2), id (2), mask (1)": half h as its bytes have it, with the kind of the message.
 unfoldable pub halfAt : List ℕ → ℕ → Half
 halfAt m h =
     let i = halfPlace h in
     record { kind = kindOf (kindIn m); key = number m i; id = number m (i + 2); mask = getD m (i + 4) 0 }
 
--- Half h, if it is present, or none.
+-- Half h, if it is present, or none; so the previous half or none, and the new half or none.
 unfoldable pub halves : List ℕ → ℕ → List Half
 halves m h = cond (present m h) (halfAt m h ∷ []) []
 

@@ -10,8 +10,8 @@ use Rattle.index.specs.Block.{number}
 use Rattle.index.specs.Message.{IsKind, kindOf, Half, halfCount, kindIn, flags, present}
 
 -- "Its 16-byte header has kind, flags, four list lengths (previous keys, previous ids, new keys, new ids), two masks, one
--- byte each, then four 16-bit offsets from its first byte". The lists are
--- numbered 0 to 3: those of half h are 2 h, its keys, and 2 h + 1, its ids.
+-- byte each, then four 16-bit offsets from its first byte". The lists are numbered 0 to 3: those of half h are 2 h, its keys,
+-- and 2 h + 1, its ids.
 unfoldable pub listLength : List ℕ → ℕ → ℕ
 listLength m q = getD m (2 + q) 0
 
@@ -59,10 +59,11 @@ unfoldable pub pairs : Kind → ℕ → List ℕ → List ℕ → List Half
 pairs kind mask [] ys = []
 pairs kind mask (x ∷ xs) ys = map (λ y. record { kind = kind; key = x; id = y; mask = mask }) ys ++ pairs kind mask xs ys
 
--- Half h, pair by pair. "All of the previous half is taken away, then all of the new added".
+-- Half h, pair by pair.
 unfoldable pub wideHalves : List ℕ → ℕ → List Half
 wideHalves m h = pairs (kindOf (kindIn m)) (maskIn m h) (names m (2 * h)) (names m (2 * h + 1))
 
+-- "All of the previous half is taken away, then all of the new added": `changes` of these two.
 abbrev pub widePrevious : List ℕ → List Half
 widePrevious m = wideHalves m 0
 

@@ -50,6 +50,9 @@ pub const GREATEST: usize = HEADER + RECORD * ROOM;
 
 pub const ROOM: usize = 2048;
 
+// How many bytes a message has: kind, flags, and two halves.
+pub const MESSAGE: usize = 12;
+
 // What a record says. Membership: the key is a member of the group id. Permission: id is granted or denied rights on
 // key. Filter: the filter named id bounds key.
 pub enum Kind {

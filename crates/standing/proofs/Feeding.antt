@@ -7,7 +7,8 @@ use lib.ListN.{length, take, drop, drop-of-length-le}
 use lib.Seq.{take-at, drop-at, take-all, length-take-le}
 use Rattle.index.specs.Calls.{Message}
 use Rattle.standing.specs.declared.Input.the-variants as input
-use Rattle.standing.specs.Printed.{messageLength, refusalLine, Fed}
+use Rattle.index.specs.Message.{messageLength}
+use Rattle.standing.specs.Printed.{refusalLine, Fed}
 use Rattle.standing.specs.Printed.Fed.{done, piece}
 use Rattle.standing.specs.Promised.{Taken, Came, Feeds}
 use Rattle.standing.specs.work.Room.{Usable}

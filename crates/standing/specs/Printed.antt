@@ -6,6 +6,7 @@ use lib.ListN.{length, take, drop}
 use Rattle.index.specs.declared.Kind.{Kind}
 use Rattle.index.specs.declared.Kind.the-variants.{Membership, Permission, Filter}
 use Rattle.index.specs.Block.{nameCount, greatestLength}
+use Rattle.index.specs.Message.{messageLength}
 use Rattle.index.specs.Text.{Entry, decimal, textOf, setOf}
 use Rattle.index.specs.Calls.{Makes, Message}
 
@@ -30,10 +31,6 @@ newline = 10 ∷ []
 unfoldable pub refusalLine : ℕ → ℕ → List ℕ
 refusalLine n zero = []
 refusalLine n (suc r) = messageWord ++ decimal n ++ refusedWord ++ decimal (suc r) ++ newline
-
--- "messages of 12 bytes"
-abbrev pub messageLength : ℕ
-messageLength = 12
 
 -- "reads messages of 12 bytes from standard input", "N from 1; a short last piece is refused with 3": from message n on, the
 -- input left, the lines printed, and the block from b to b′.

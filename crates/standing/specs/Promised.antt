@@ -6,7 +6,8 @@ use lib.ListN.{length, take}
 use Rattle.index.specs.Calls.{Message}
 use Rattle.standing.specs.declared.Input.{Input}
 use Rattle.standing.specs.declared.Input.the-variants as input
-use Rattle.standing.specs.Printed.{messageLength, refusalLine, Fed, blockLines, Prints}
+use Rattle.index.specs.Message.{messageLength}
+use Rattle.standing.specs.Printed.{refusalLine, Fed, blockLines, Prints}
 
 -- The line stands at the front of the buffer, n bytes long: these bytes are handed on.
 pub record Front (line out : List ℕ) (n : ℕ) : Type 0 where

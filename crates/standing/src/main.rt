@@ -1,11 +1,11 @@
 // standing: reads messages of 12 bytes from standard input into an empty block, says which were refused, then prints
 // every set that is not empty.
 use index::GREATEST;
-use index::HEADER;
 use index::Kind;
 use index::LETTER_COUNT;
+use index::MESSAGE;
 use index::NAMES;
-use index::RECORD;
+use index::ROOM;
 use index::Wrote;
 ghost use mathlib.Core.Path.{_≡_};
 ghost use mathlib.Core.Bool.{true};
@@ -17,7 +17,8 @@ ghost use Rattle.index.specs.Message.{IsKind, kindOf};
 ghost use Rattle.index.specs.Text.{decimal, textOf, setOf};
 ghost use Rattle.index.specs.work.Longest.{longestText};
 ghost use Rattle.index.specs.work.Written.{Puts};
-ghost use Rattle.standing.specs.Printed.{kindLetter, messageLength, refusalLine, setLine, setLines, blockLines, lineWith};
+ghost use Rattle.index.specs.Message.{messageLength};
+ghost use Rattle.standing.specs.Printed.{kindLetter, refusalLine, setLine, setLines, blockLines, lineWith};
 ghost use Rattle.standing.specs.Promised.{Front, Taken, Came, Feeds, Ran};
 ghost use Rattle.standing.specs.work.Room.{Usable, lineRoom, longestSets};
 
@@ -27,9 +28,6 @@ const MEMBERSHIP: u64 = 1;
 const PERMISSION: u64 = 2;
 
 const FILTER: u64 = 3;
-
-// How many bytes a message has.
-const MESSAGE: usize = 12;
 
 // Messages are counted to this number.
 const LAST: u64 = 18446744073709551615;
@@ -43,14 +41,11 @@ const DIGITS: usize = 5;
 // Room for the text of a record: its id, `;`, each letter with its count, and the `;` before the next.
 const RECORD_TEXT: usize = DIGITS + 1 + (1 + DIGITS) * LETTER_COUNT + 1;
 
-// How many records a block has at most.
-const RECORDS: usize = (GREATEST - HEADER) / RECORD;
-
 // Room for the text of a set.
-const TEXT: usize = RECORD_TEXT * RECORDS;
+const TEXT: usize = RECORD_TEXT * ROOM;
 
 // Room for the lines of all sets: for each record a letter, a key, a space, its text and a newline.
-const SETS: usize = (1 + DIGITS + 1 + RECORD_TEXT + 1) * RECORDS;
+const SETS: usize = (1 + DIGITS + 1 + RECORD_TEXT + 1) * ROOM;
 
 // ---- writing: each function writes at `at`, and says where that ends
 

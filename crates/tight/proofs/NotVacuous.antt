@@ -1,12 +1,12 @@
 -- Each number that 01 or M-106 gives to a call is given for some input.
-use Prim.Native.Nat.{ℕ, _<_}
+use Prim.Native.Nat.{ℕ, _-_, _<_}
 use mathlib.Core.Path.{_≡_, refl}
 use mathlib.Core.List.{List, [], _∷_, _++_}
 use mathlib.Core.Logic.{inl, inr}
 use native.Mathlib.Omega.{arith}
 use lib.ListN.{replicate, length-replicate}
 use Rattle.index.specs.declared.Kind.the-variants.{Permission}
-use Rattle.index.specs.Letters.{letters, mayHave}
+use Rattle.index.specs.Letters.{letterCount, letters, mayHave}
 use Rattle.index.specs.Numbers.{Answers, Each}
 use Rattle.index.specs.Block.{number, countAt, countFrom, count, room, Sized, nameCount, Good}
 use Rattle.index.specs.Message.{IsKind, kindOf, kindIn, flags, present, halfAt, halves, previous, new, changes, ownCount, WellFormed, Named, Masked, Carried, packed, packedKind, packedHalf, packedChange, packedChanges}
@@ -215,7 +215,7 @@ unfolding WritesSet writeNeeds number countAt kindOf letters digitsOf decimal pi
 no-buffer = passed-first _ (setNeeds (reads 1) 2 9) _ _ _ (set-passes 9 (omega arith)) (inl ((λ l. omega (arith, l)), refl))
 
 -- And there is no room for the same set of another key.
-set-written : Writes Permission (record { id = 1; counts = 0 ∷ 1 ∷ zeros 6 } ∷ []) (49 ∷ 59 ∷ 82 ∷ [])
+set-written : Writes Permission (record { id = 1; counts = 0 ∷ 1 ∷ zeros (letterCount - 2) } ∷ []) (49 ∷ 59 ∷ 82 ∷ [])
 unfolding letters mayHave digit reaches readDigits readNumber readCount readLetter readCounts readMark readRecord readMore readRecords parse
 set-written = parse-sound Permission (49 ∷ 59 ∷ 82 ∷ []) refl
 

@@ -1,8 +1,10 @@
 -- Blocks and messages written out from their records: what the examples are about.
-use Prim.Native.Nat.{ℕ, suc, _+_, _*_, _/_, _%_}
+use Prim.Native.Nat.{ℕ, suc, _+_, _-_, _*_, _/_, _%_}
 use mathlib.Core.List.{List, [], _∷_, _++_}
 use lib.ListN.{length}
+use Rattle.index.specs.Letters.{letterCount}
 use Rattle.index.specs.Block.{recordLength, place}
+use Rattle.index.specs.Message.{halfLength}
 
 -- A 16-bit number in two bytes, the low one first.
 abbrev pub two : ℕ → List ℕ
@@ -16,11 +18,13 @@ abbrev pub zeros : ℕ → List ℕ
 zeros ℕ.zero = []
 zeros (suc n) = 0 ∷ zeros n
 
--- Letter k of a mask, for each of the eight.
+-- The first n letters of a mask, 1 where it has the letter and else 0; and all of them.
+abbrev pub firstBits : ℕ → ℕ → List ℕ
+firstBits ℕ.zero mask = []
+firstBits (suc n) mask = mask % 2 ∷ firstBits n (mask / 2)
+
 abbrev pub bits : ℕ → List ℕ
-bits mask =
-    mask % 2 ∷ mask / 2 % 2 ∷ mask / 4 % 2 ∷ mask / 8 % 2 ∷ mask / 16 % 2 ∷ mask / 32 % 2 ∷ mask / 64 % 2
-    ∷ mask / 128 % 2 ∷ []
+bits mask = firstBits letterCount mask
 
 -- A record: its key, its id, and its counts in letter order.
 pub record Row : Type 0 where
@@ -50,12 +54,13 @@ block ms ps fs n =
 abbrev pub halfBytes : ℕ → ℕ → ℕ → List ℕ
 halfBytes x y mask = two x ++ (two y ++ (mask ∷ []))
 
--- A new statement, one withdrawn, and one that changes from the first half to the second. The kind: 1 M, 2 P, 3 F.
+-- A new statement, one withdrawn, and one that changes from the first half to the second. The kind: 1 M, 2 P, 3 F. The flags: 1 previous
+-- present, 2 new present, 3 both.
 abbrev pub giving : ℕ → ℕ → ℕ → ℕ → List ℕ
-giving kind x y mask = kind ∷ 2 ∷ (zeros 5 ++ halfBytes x y mask)
+giving kind x y mask = kind ∷ 2 ∷ (zeros halfLength ++ halfBytes x y mask)
 
 abbrev pub withdrawing : ℕ → ℕ → ℕ → ℕ → List ℕ
-withdrawing kind x y mask = kind ∷ 1 ∷ (halfBytes x y mask ++ zeros 5)
+withdrawing kind x y mask = kind ∷ 1 ∷ (halfBytes x y mask ++ zeros halfLength)
 
 abbrev pub moving : ℕ → List ℕ → List ℕ → List ℕ
 moving kind before after = kind ∷ 3 ∷ (before ++ after)
@@ -67,7 +72,7 @@ nothing = block [] [] [] 1
 
 -- The block in which n statements give it.
 abbrev pub reads : ℕ → List ℕ
-reads n = block [] (record { key = 9; id = 1; counts = 0 ∷ n ∷ zeros 6 } ∷ []) [] 0
+reads n = block [] (record { key = 9; id = 1; counts = 0 ∷ n ∷ zeros (letterCount - 2) } ∷ []) [] 0
 
 abbrev pub give : List ℕ
 give = giving 2 9 1 2

@@ -1,12 +1,12 @@
 -- 01, "Examples to hold it to": the starred ones, as one table, with some of M-101, M-102 and M-109. A case says what it says by the
 -- promises of the calls.
-use Prim.Native.Nat.{ℕ, _≤_}
+use Prim.Native.Nat.{ℕ, _-_, _≤_}
 use mathlib.Core.Path.{_≡_}
 use mathlib.Core.List.{List, [], _∷_, _++_}
 use lib.ListN.{length, drop}
 use Rattle.index.specs.declared.Kind.{Kind}
 use Rattle.index.specs.declared.Kind.the-variants.{Membership, Permission, Filter}
-use Rattle.index.specs.Letters.{allRights}
+use Rattle.index.specs.Letters.{letterCount, allRights}
 use Rattle.index.specs.Block.{IsName, Sized, Good}
 use Rattle.index.specs.Message.{IsKind, kindOf}
 use Rattle.index.specs.Calls.{Message, WritesSet, ReadsSet}
@@ -61,7 +61,7 @@ granted mask = block [] (once 9 1 mask ∷ []) [] 0
 
 -- "id 3 with M, R, U once, id 12 with M, R once and U twice"
 abbrev pub twoRecords : List ℕ
-twoRecords = block [] (once 7 3 7 ∷ record { key = 7; id = 12; counts = 1 ∷ 1 ∷ 2 ∷ zeros 5 } ∷ []) [] 0
+twoRecords = block [] (once 7 3 7 ∷ record { key = 7; id = 12; counts = 1 ∷ 1 ∷ 2 ∷ zeros (letterCount - 3) } ∷ []) [] 0
 
 -- "`3;MRU;12;MRU2`"
 --        3    ;    M    R    U    ;    1    2    ;    M    R    U    2

@@ -7,7 +7,7 @@ ghost use mathlib.Core.Path.{_≡_};
 ghost use mathlib.Core.Bool.{true};
 ghost use Prim.Native.Nat.{ℕ, _<_, _^_};
 ghost use lib.ListN.{length, getD};
-ghost use Rattle.index.specs.Letters.{letterCount, letters, In, mayHave};
+ghost use Rattle.index.specs.Letters.{letterCount, rightCount, letters, In, mayHave};
 ghost use Rattle.index.specs.work.Checks.{Says};
 ghost use Rattle.index.specs.work.Edits.{Letters};
 ghost use Rattle.index.specs.work.Reading.{byteOf, BytesOf};
@@ -78,9 +78,9 @@ pub(crate) fn letter_at(k: usize) -> Letter
     LETTERS[k]
 }
 
-// The mask of letter k.
+// The mask of right k.
 pub(crate) fn mask_of(k: u8) -> u8
-    requires { ⌜ k < letterCount ⌝ }
+    requires { ⌜ k < rightCount ⌝ }
     ensures { λ r. ⌜ r ≡ 2 ^ k ⌝ }
 {
     let letter = letter_at(k as usize);

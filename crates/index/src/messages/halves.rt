@@ -11,9 +11,6 @@ ghost use Rattle.index.specs.Message.{kindOf, messageLength, halfCount, 
 ghost use Rattle.index.specs.work.Checks.{Says};
 ghost use Rattle.index.specs.work.Edits.{half};
 
-// How many bytes a message has: kind, flags, and two halves.
-pub(crate) const MESSAGE: usize = FIRST + 2 * HALF;
-
 // Where the first half begins, and how many bytes a half has: key, id, mask.
 pub(crate) const FIRST: usize = 2;
 
@@ -40,7 +37,7 @@ pub(crate) fn is_present(m: &[u8], h: usize) -> bool
     (m[1] >> h) % 2 == 1
 }
 
-// Half h of a message, if it is present.
+// Half h of a message, as its bytes have it.
 pub(crate) fn half_at(m: &[u8], h: usize) -> Half
     requires { ⌜ (length (now m) ≡ messageLength) × (h < halfCount) ⌝ }
     ensures { λ r. ⌜ half (kindOf (r .kind)) (r .x) (r .y) (r .mask) ≡ halfAt (now (m .entry)) h ⌝ }

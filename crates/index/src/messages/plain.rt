@@ -1,10 +1,10 @@
 // A plain message: its tests, and what it does.
 
+use crate::MESSAGE;
 use crate::block::checks::tested;
 use crate::messages::carry::carry;
 use crate::messages::halves::FIRST;
 use crate::messages::halves::HALF;
-use crate::messages::halves::MESSAGE;
 use crate::messages::halves::NEW;
 use crate::messages::halves::PREVIOUS;
 use crate::messages::halves::half_at;

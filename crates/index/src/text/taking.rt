@@ -8,7 +8,7 @@ use crate::text::entries::take_record;
 use crate::text::reading::Cursor;
 use crate::text::reading::Piece;
 ghost use mathlib.Core.List.{List};
-ghost use Prim.Native.Nat.{ℕ, _+_, _<_, _≤_};
+ghost use Prim.Native.Nat.{_+_, _<_, _≤_};
 ghost use lib.ListN.{length};
 ghost use Rattle.index.specs.Block.{place};
 ghost use Rattle.index.specs.Text.{Entry, Writes};

@@ -17,7 +17,7 @@ ghost use Rattle.index.specs.Text.{decimal, pieceOf, piecesOf, countsAt,
 ghost use Rattle.index.specs.work.Pieces.{nextText};
 ghost use Rattle.index.specs.work.Written.{Puts, entriesFrom};
 
-// No record has a longer text, with the `;` before the next one: an id and eight counts have at most five digits each.
+// No record has a longer text, with the `;` before the next one: an id and a count have at most five digits each.
 const LONGEST_RECORD: usize = 5 + 1 + 6 * LETTER_COUNT + 1;
 
 fn put_byte(out: &mut [u8], at: usize, byte: u8) -> usize

@@ -4,7 +4,7 @@ use mathlib.Core.Path.{_≡_, refl, _∙_}
 use native.Mathlib.Omega.{arith}
 use borrow.Author.Needs.{needs}
 use lib.ListN.{length}
-use Rattle.standing.specs.Printed.{messageLength}
+use Rattle.index.specs.Message.{messageLength}
 use Rattle.standing.specs.work.Room.{lineRoom}
 use Rattle.standing.proofs.Feeding.{Feeding, feeding-first, feeding-over, feeding-more, feeding-last, feeding-ended}
 use Rattle.standing.proofs.feed.Statement.{statement}

@@ -49,10 +49,10 @@ module _ (b : List ℕ) (i s : ℕ) where
   four-none e k l h = let q : s + (k - s) ≡ k = omega arith in rw q at (none e (k - s) (omega arith))
 
 module _ (b : List ℕ) (i : ℕ) where
-  pub counted-of : (s : ℕ) → s ≤ 4 → 0 < fourAt b i s → Counted b i
+  pub counted-of : (s : ℕ) → s + 4 ≤ letterCount → 0 < fourAt b i s → Counted b i
   counted-of s l h = let w = some b i s h in (s + w .0, omega (arith, w .1), w .2)
 
-  pub after-none : (s : ℕ) → 4 ≤ s → fourAt b i s ≡ 0 → (k : ℕ) → s ≤ k → countAt b i k ≡ 0
+  pub after-none : (s : ℕ) → letterCount ≤ s + 4 → fourAt b i s ≡ 0 → (k : ℕ) → s ≤ k → countAt b i k ≡ 0
   after-none s l e k m = ⊎-elim (λ h. four-none b i s e k m h) (λ h. count-out b i k (omega arith)) (lt-or-le k (s + 4))
 
   pub none-after : (s : ℕ) → ((k : ℕ) → s ≤ k → countAt b i k ≡ 0) → fourAt b i s ≡ 0

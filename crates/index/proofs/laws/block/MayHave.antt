@@ -1,5 +1,5 @@
 -- Which letters a record of a kind may have, and whether it may have all letters of a mask.
-use Prim.Native.Nat.{ℕ, zero, suc, _+_, _*_, _/_, _%_, _^_, _<_, _≤_}
+use Prim.Native.Nat.{ℕ, zero, suc, _+_, _/_, _%_, _^_, _<_, _≤_}
 use mathlib.Core.Path.{_≡_, refl, sym, ap, subst, _∙_}
 use mathlib.Core.Bool.{Bool, true, false, cond, _&&_}
 use mathlib.Core.Logic.{⊎-elim, _↔_}
@@ -81,11 +81,6 @@ pub all-may : (kind : Kind) (mask : ℕ) → mask < 2 ^ letterCount → ((k : �
     → AllMay kind mask
 all-may kind mask l each k e =
     ⊎-elim (λ h. each k h e) (λ h. absurd (omega (arith, e, no-letter mask letterCount k l h))) (lt-or-le k letterCount)
-
-pub all-below : (kind : Kind) (mask : ℕ) → AllMay kind mask → mask < 2 ^ letterCount
-all-below kind mask all =
-    ⊎-elim (λ h. h) (λ h. let (k, l, e) = high-letter letterCount mask h in absurd (omega (arith, l, below kind k (all k e))))
-    (lt-or-le mask (2 ^ letterCount))
 
 -- ---- the mask of the letters that a kind may have
 

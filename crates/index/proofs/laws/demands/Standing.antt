@@ -13,7 +13,7 @@ use Rattle.index.specs.declared.Kind.the-variants.{Membership, Permissio
 use Rattle.index.specs.Letters.{letterCount}
 use Rattle.index.specs.Block.{size, records, countFrom, count}
 use Rattle.index.specs.Message.{changes, Half, Change, taken, added}
-use Rattle.index.specs.Message.Change.{take, add}
+use Rattle.index.specs.Message.Change.{add}
 use Rattle.index.specs.Numbers.{Each}
 use Rattle.index.specs.Calls.{Makes, makeNeeds}
 use Rattle.index.specs.History.{Labelled, Statement, previousOf, newOf, left, others, after, History, movesOf, tally}

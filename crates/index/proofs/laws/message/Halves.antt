@@ -66,9 +66,6 @@ module _ (m : List ℕ) where
     pub previous-alone : present m 1 ≡ false → present m 0 ≡ true
     previous-alone n = ⊎-elim (λ p. p .1) (⊎-elim (λ p. absurd (differ (sym (p .2) ∙ n))) (λ p. p .1)) flags-say
 
-    pub new-alone : present m 0 ≡ false → present m 1 ≡ true
-    new-alone n = ⊎-elim (λ p. absurd (differ (sym (p .1) ∙ n))) (⊎-elim (λ p. p .2) (λ p. p .2)) flags-say
-
   pub changes-previous : present m 0 ≡ true → present m 1 ≡ false → changes (previous m) (new m) ≡ take (halfAt m 0) ∷ []
   unfolding changes
   changes-previous e n = rw (there 0 e, not-there 1 n)

@@ -8,7 +8,7 @@ use lib.Dec.{eqb}
 use lib.ListN.{length, getD, take, length-append, length-take}
 use Rattle.index.specs.declared.Kind.{Kind}
 use Rattle.index.specs.Letters.{letters}
-use Rattle.index.specs.Block.{place, Sized, Good, records, size, from, key}
+use Rattle.index.specs.Block.{place, Sized, Good, size, from, key}
 use Rattle.index.specs.Text.{Entry, decimal, pieceOf, piecesOf, entryText, textOf, entryAt, setFrom, setOf, IsSet, Writes, Begins, Place}
 use Rattle.index.specs.work.Pieces.{nextText}
 use Rattle.index.specs.work.Written.{entriesFrom}

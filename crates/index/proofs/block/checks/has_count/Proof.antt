@@ -3,6 +3,7 @@ use mathlib.Core.Path.{sym, _∙_}
 use native.Mathlib.Omega.{arith}
 use borrow.Author.Tests.{not-true}
 use borrow.Author.Needs.{needs}
+use Rattle.index.specs.Letters.{rightCount}
 use Rattle.index.proofs.laws.block.Checked.{counted-of, after-none, not-counted}
 use Rattle.index.proofs.laws.block.MayHave.{no-small}
 use Rattle.index.proofs.block.checks.has_count.Statement.{statement}
@@ -18,10 +19,10 @@ returns-2 c =
     λ a. not-counted _ _ (omega arith) (λ k l. a k (no-small kind n k l))
 
 returns-3 : tie.Need-returns-3
-returns-3 c = λ _. not-counted _ _ (omega arith) (after-none _ _ 4 (omega arith) (omega arith))
+returns-3 c = λ _. not-counted _ _ (omega arith) (after-none _ _ rightCount (omega arith) (omega arith))
 
 returns-4 : tie.Need-returns-4
-returns-4 c = λ _. counted-of _ _ 4 (omega arith) (omega arith)
+returns-4 c = λ _. counted-of _ _ rightCount (omega arith) (omega arith)
 
 pub has-count-spec : {M : Type 1} → statement M
 has-count-spec =

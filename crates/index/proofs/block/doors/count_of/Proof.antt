@@ -1,4 +1,4 @@
--- `doors::count_of` meets its contract: a record has eight letters, and none beyond.
+-- `index::block::doors::count_of` meets its contract: a record has so many letters, and none beyond.
 use Rattle.index.proofs.laws.block.Bytes.{count-number, count-out}
 use mathlib.Core.Path.{sym, _∙_}
 use native.Mathlib.Omega.{arith}

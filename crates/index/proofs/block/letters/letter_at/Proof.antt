@@ -1,5 +1,5 @@
--- `index::block::letters::letter_at` meets its contract: each of the eight entries of the table is right.
-use Prim.Native.Nat.{ℕ, _^_}
+-- `index::block::letters::letter_at` meets its contract: each entry of the table is right.
+use Prim.Native.Nat.{ℕ, _*_, _^_}
 use mathlib.Core.Path.{_≡_}
 use mathlib.Core.List.{List, [], _∷_}
 use lib.ListN.{getD}
@@ -14,9 +14,13 @@ use Rattle.index.proofs.block.letters.letter_at.Tie as tie
 abbrev entry : ℕ → ℕ → Letter
 entry m b = record { mask = m; byte = b }
 
+-- The entries of letters with these bytes, the first with the mask m, each with twice the mask of the one before.
+abbrev entries : ℕ → List ℕ → List Letter
+entries m [] = []
+entries m (b ∷ bs) = entry m b ∷ entries (2 * m) bs
+
 abbrev table : List Letter
-table =
-    entry 1 77 ∷ entry 2 82 ∷ entry 4 85 ∷ entry 8 80 ∷ entry 16 109 ∷ entry 32 114 ∷ entry 64 117 ∷ entry 128 112 ∷ []
+table = entries 1 letters
 
 abbrev Right : ℕ → Type 0
 Right k = (getD table k (entry 0 0) .mask ≡ 2 ^ k) × (getD table k (entry 0 0) .byte ≡ getD letters k 0)
@@ -26,6 +30,7 @@ unfolding letters
 all-right = omega arith
 
 returns : tie.Need-returns
+unfolding letters
 returns c = listed Right letterCount all-right (c .before .args .k) (search needs)
 
 pub letter-at-spec : {M : Type 1} → statement M

@@ -6,7 +6,7 @@ use native.Mathlib.Omega.{arith}
 use borrow.Author.Needs.{needs}
 use borrow.Author.Tests.{not-true, not-false}
 use Rattle.index.specs.Message.{present}
-use Rattle.index.proofs.laws.message.Halves.{previous-alone, new-alone, changes-previous, changes-new, changes-both}
+use Rattle.index.proofs.laws.message.Halves.{previous-alone, changes-previous, changes-new, changes-both}
 use Rattle.index.proofs.laws.message.Packing.{ready-in, each-prepared}
 use Rattle.index.proofs.laws.message.Running.{one-carried}
 use Rattle.index.proofs.messages.carry.carry.Statement.{statement}

@@ -1,10 +1,7 @@
 -- A half is read and packed as a change.
-use mathlib.Core.Path.{_∙_, ap}
 use native.Mathlib.Omega.{arith}
 use borrow.Author.Needs.{needs}
 use lib.Dec.{eqb}
-use Rattle.index.specs.Message.{kindOf}
-use Rattle.index.specs.work.Edits.{changeOf}
 use Rattle.index.proofs.laws.message.Packing.{unpacked}
 use Rattle.index.proofs.messages.carry.change_at.Statement.{statement}
 use Rattle.index.proofs.messages.carry.change_at.Tie as tie

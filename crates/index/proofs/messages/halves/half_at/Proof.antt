@@ -1,5 +1,5 @@
 -- A half is read, field by field.
-use Prim.Native.Nat.{_+_, _*_}
+use Prim.Native.Nat.{_+_}
 use native.Mathlib.Omega.{arith}
 use borrow.Author.Needs.{needs}
 use Rattle.index.specs.Message.{halfPlace, kindIn, halfAt}

@@ -1,4 +1,4 @@
--- The mask of a half, as a number and letter by letter.
+-- The mask of a half: not 0, and each letter of it one that the kind may have.
 use native.Mathlib.Omega.{arith}
 use borrow.Author.Needs.{needs}
 use Rattle.index.specs.Message.{Masked}

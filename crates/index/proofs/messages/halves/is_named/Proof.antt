@@ -1,7 +1,6 @@
 -- Both names of a half are tested.
 use native.Mathlib.Omega.{arith}
 use lib.Dec.{ltb}
-use borrow.Author.Needs.{needs}
 use Rattle.index.specs.Block.{nameCount}
 use Rattle.index.specs.Message.{Named}
 use Rattle.index.proofs.laws.Answer.{says-same, less-says}

@@ -1,5 +1,5 @@
 -- A half that is absent has its five bytes tested, one after the other.
-use Prim.Native.Nat.{ℕ, _+_, _*_, _≤_, _<_, _-_}
+use Prim.Native.Nat.{ℕ, _+_, _≤_, _<_, _-_}
 use mathlib.Core.Path.{_≡_, sym, _∙_}
 use native.Mathlib.Omega.{arith}
 use borrow.Author.Count.{below-none, below-more}

@@ -4,7 +4,6 @@ use mathlib.Core.Path.{_≡_, _∙_}
 use denote.Ref.{now}
 use native.Mathlib.Omega.{arith}
 use lib.ListN.{length, drop, getD, length-set}
-use mathlib.Core.List.{List}
 use Rattle.index.specs.declared.Kind.{Kind}
 use Rattle.index.specs.Letters.{letterCount, letters, mayHave}
 use Rattle.index.specs.work.Reading.{BytesOf, readCounts}
