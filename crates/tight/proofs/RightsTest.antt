@@ -14,8 +14,8 @@ use Rattle.index.proofs.laws.block.Masks.{in-all}
 use Rattle.index.proofs.laws.Tests.{both, all, all-at}
 use Rattle.rights.specs.Held.{Holds}
 use Rattle.rights.specs.Questions.{questionNeeds, Limited, Full}
-use Rattle.rights.proofs.laws.examined.ExaminedTest.{examinedTest, examined-test}
-use Rattle.rights.proofs.laws.held.HoldsTest.{holdsTest, holds-test}
+use Rattle.rights.proofs.laws.tests.ExaminedTest.{examinedTest, examined-test}
+use Rattle.rights.proofs.laws.tests.HoldsTest.{holdsTest, holds-test}
 use Rattle.tight.proofs.BlockTest.{blockTest, block-test}
 
 abbrev same : Bool → Bool → Bool

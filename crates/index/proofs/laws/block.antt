@@ -1,8 +1,8 @@
 -- 01, "The block": its laws in reading order.
 -- Bytes and numbers.
 pub mod Stores
-pub mod Filling
 pub mod Bytes
+pub mod Filling
 pub mod Seen
 -- Letters: the rights in a mask, and which letters a kind may have.
 pub mod Masks
@@ -11,15 +11,15 @@ pub mod MayHave
 pub mod ThreeKinds
 pub mod Records
 pub mod Finding
--- A good block: what it is made of, tests of it, and that its counts fix it.
+-- A good block: what it is made of, records in the place of others, tests of it, and that its counts fix it.
 pub mod Together
+pub mod Splice
 pub mod Checked
 pub mod GoodTest
 pub mod Canonical
--- How a block is changed: its header, an empty one, records in the place of others.
+-- How a block is written: its header, an empty one, other bytes of the records that came.
 pub mod Sizes
 pub mod Empty
-pub mod Splice
 pub mod SpliceThen
 -- The doors: the net mask of a record, and one answer each.
 pub mod Joining

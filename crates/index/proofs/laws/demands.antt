@@ -1,10 +1,10 @@
--- What the customer demands, with the theorem for each.
--- 1. Bad input changes nothing, and each call has one answer.
+-- What the customer demands, with the theorem for each, in reading order.
+-- 1. Bad input changes nothing.
 pub mod Unchanged
-pub mod OneCall
--- 2. A set written as text reads back as the same set.
-pub mod RoundTrip
 -- 3. The order of messages does not matter, and counts are the statements that stand.
 pub mod AnyOrder
 pub mod Pairs
 pub mod Standing
+-- 2. Each call has one answer, and a set written as text reads back as the same set.
+pub mod OneCall
+pub mod RoundTrip

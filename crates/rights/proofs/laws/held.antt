@@ -5,7 +5,3 @@ pub mod Sifting
 -- The grants between the two sides.
 pub mod Granting
 pub mod Sides
--- Tests that compute.
-pub mod ChainTest
-pub mod FilterTest
-pub mod HoldsTest

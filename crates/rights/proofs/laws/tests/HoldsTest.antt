@@ -16,8 +16,8 @@ use Rattle.rights.specs.Held.{Net, Holds, chainLimit}
 use Rattle.rights.specs.work.Marks.{Granted}
 use Rattle.rights.proofs.laws.questions.Asking.{holds}
 use Rattle.rights.proofs.laws.ByNumber.{at-self, net-at, net-where}
-use Rattle.rights.proofs.laws.held.ChainTest.{and-true, member, member-first, member-own, member-later, netTest, net-test, spread, chain-test}
-use Rattle.rights.proofs.laws.held.FilterTest.{passesTest, passes-test}
+use Rattle.rights.proofs.laws.tests.ChainTest.{and-true, member, member-first, member-own, member-later, netTest, net-test, spread, chain-test}
+use Rattle.rights.proofs.laws.tests.FilterTest.{passesTest, passes-test}
 
 -- Record i grants right k to a name of the first list on a name of the second.
 abbrev grantTest : List ℕ → ℕ → List ℕ → List ℕ → ℕ → Bool

@@ -15,7 +15,7 @@ use Rattle.index.proofs.laws.Tests.{both, all, all-at}
 use Rattle.rights.specs.Held.{Passes}
 use Rattle.rights.specs.work.Lookup.{EachOf, Lets}
 use Rattle.rights.proofs.laws.held.Filters.{lets, passes}
-use Rattle.rights.proofs.laws.held.ChainTest.{and-true, netTest, net-test}
+use Rattle.rights.proofs.laws.tests.ChainTest.{and-true, netTest, net-test}
 
 -- P holds of each record of the kind with the key x.
 abbrev eachTest : List ℕ → Kind → ℕ → (ℕ → Bool) → Bool

@@ -16,9 +16,9 @@ use Rattle.rights.specs.Examined.{Mark, MarkBefore, Differs, HowMany, Ex
 use Rattle.rights.specs.Examined.HowMany.{none, one, other}
 use Rattle.rights.specs.Examined.Examined.{before, round}
 use Rattle.rights.proofs.laws.ByNumber.{net-where}
-use Rattle.rights.proofs.laws.held.ChainTest.{and-true, member, spread, chain-test}
+use Rattle.rights.proofs.laws.tests.ChainTest.{and-true, member, spread, chain-test}
 use Rattle.rights.proofs.laws.Counting.{count-none, count-zero}
-use Rattle.rights.proofs.laws.held.HoldsTest.{from-some}
+use Rattle.rights.proofs.laws.tests.HoldsTest.{from-some}
 use Rattle.rights.proofs.laws.walk.MarksAreChains.{one-more}
 
 -- ---- what computes
