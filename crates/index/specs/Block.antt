@@ -1,4 +1,4 @@
--- 01, "The block". A block is the list of its bytes.
+-- 01, "The block", with M-107 for its lengths. A block is the list of its bytes.
 use Prim.Native.Nat.{ℕ, suc, _+_, _-_, _*_, _/_, _%_, _^_, _<_, _≤_}
 use mathlib.Core.Path.{_≡_}
 use mathlib.Core.Bool.{false, cond, _&&_}
@@ -21,7 +21,7 @@ greatestName = 1023
 abbrev pub IsName : ℕ → Type 0
 IsName n = n < nameCount
 
--- "eight 16-bit counts": a count is at most 65,535.
+-- "16-bit counts": a count is at most 65,535.
 abbrev pub greatestCount : ℕ
 greatestCount = 65535
 
@@ -29,12 +29,12 @@ greatestCount = 65535
 unfoldable pub number : List ℕ → ℕ → ℕ
 number b i = getD b i 0 + 256 * getD b (i + 1) 0
 
--- "The block is 16 to 40,976 bytes long."
+-- "The block is 16 to" so many "bytes long." M-107: "a block may have 49,168 bytes".
 abbrev pub headerLength : ℕ
 headerLength = 16
 
 abbrev pub greatestLength : ℕ
-greatestLength = 40976
+greatestLength = 49168
 
 unfoldable pub Sized : List ℕ → Type 0
 Sized b = (headerLength ≤ length b) × (length b ≤ greatestLength)
@@ -67,9 +67,10 @@ Of b kind i = (from b kind ≤ i) × (i < from b kind + size b kind)
 
 -- ---- a record
 
--- "A record has 20 bytes: key (16 bits), id (16 bits), then eight 16-bit counts in letter order."
+-- "key (16 bits), id (16 bits), then" the "16-bit counts in letter order." M-107: "Each record grows to 24 bytes, with counts of X and N
+-- after the letters".
 abbrev pub recordLength : ℕ
-recordLength = 20
+recordLength = 24
 
 -- "The M part begins at 16": where record i begins.
 abbrev pub place : ℕ → ℕ
@@ -89,7 +90,7 @@ countAt b i k = cond (ltb k letterCount) (number b (place i + 4 + 2 * k)) 0
 abbrev pub Has : List ℕ → ℕ → Type 0
 Has b i = place (i + 1) ≤ length b
 
--- "Room for records is (length − 16) / 20, rounded down"
+-- M-107: "room is (length − 16) / 24"; "rounded down"
 unfoldable pub room : List ℕ → ℕ
 room b = (length b - headerLength) / recordLength
 
@@ -120,9 +121,10 @@ pub record Good (b : List ℕ) : Type 0 where
   pub ids : (i : ℕ) → i < records b → IsName (id b i)
   -- "records in each part rise strictly by key then id"
   pub rising : (kind : Kind) (i : ℕ) → Of b kind i → Of b kind (i + 1) → Before b i (i + 1)
-  -- "each record has a count above zero"
+  -- "each record has a count above zero". M-107: "A record stays while any of ten counts is above zero".
   pub counted : (i : ℕ) → i < records b → (k : ℕ) × (k < letterCount) × (0 < countAt b i k)
-  -- "M and F records have zero in the four small-letter counts"
+  -- "M and F records have zero in the four small-letter counts". M-107: "P and F records have neither, and in a good block those two
+  -- counts of theirs are zero".
   pub allowed : (kind : Kind) (i : ℕ) → Of b kind i → (k : ℕ) → mayHave kind k ≡ false → countAt b i k ≡ 0
   -- "every byte from the end on is zero"
   pub tail : (j : ℕ) → place (records b) ≤ j → getD b j 0 ≡ 0

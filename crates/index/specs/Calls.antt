@@ -1,4 +1,5 @@
--- 01, "Numbers a caller can get": the calls of this crate, each with its requirements in the order of their tests.
+-- 01, "Numbers a caller can get": the calls of this crate, each with its requirements in the order of their tests; M-107 for lengths and
+-- markers.
 use Prim.Native.Nat.{ℕ, _+_, _*_, _<_, _≤_}
 use mathlib.Core.Path.{_≡_}
 use mathlib.Core.List.{List, [], _∷_, _++_}
@@ -9,14 +10,15 @@ use Rattle.index.specs.declared.Wrote.{Wrote}
 use Rattle.index.specs.declared.Wrote.the-variants as wrote
 use Rattle.index.specs.declared.Took.{Took}
 use Rattle.index.specs.declared.Took.the-variants as took
-use Rattle.index.specs.Letters.{Mask}
+use Rattle.index.specs.declared.Kind.the-variants.{Membership}
+use Rattle.index.specs.Letters.{markerX, markerN, Mask}
 use Rattle.index.specs.Numbers.{First, Each}
-use Rattle.index.specs.Block.{IsName, Sized, key, id, Has, Good, records, room, NetAt}
-use Rattle.index.specs.Message.{IsKind, kindOf, previous, new, WellFormed, Named, Masked, changes, Carried, packedKind, packedHalf, packedChanges}
+use Rattle.index.specs.Block.{IsName, Sized, Of, key, id, countAt, Has, Good, records, room, NetAt}
+use Rattle.index.specs.Message.{IsKind, kindOf, previous, new, WellFormed, Named, Masked, changes, Carried, packedHalf, PackedWell, packedChanges}
 use Rattle.index.specs.Wide.{WideFormed, widePrevious, wideNew}
 use Rattle.index.specs.Text.{Entry, textOf, setOf, Writes, Replaced, Place}
 
--- 1: "block length not 16 to 40,976"; 2: "block not good".
+-- 1: "block length not 16 to" 49,168; 2: "block not good". M-107: "1 and 8 by the new lengths".
 unfoldable pub blockNeeds : List ℕ → List (ℕ × Type 0)
 blockNeeds b = (1, Sized b) ∷ (2, Good b) ∷ []
 
@@ -30,8 +32,9 @@ makeNeeds b = (1, Sized b) ∷ []
 unfoldable pub Makes : List ℕ → (ℕ × List ℕ) → Type 0
 Makes b o = First (λ n. (n, b)) (makeNeeds b) (Made b) o
 
--- message: the number, and the block then. 3: "message not 12 bytes, or kind, flags or an absent half wrong"; 4: "a name
--- above 1023, given by the caller or in a present half", here the latter; 5: "a present half's mask 0, or above 15 for M or F"; then 6, 7 and 8 of its steps.
+-- message: the number, and the block then. 3: "message not 12 bytes, or kind, flags or an absent half wrong", and M-107: "both markers in
+-- one half, a marker on an absent half or on kinds 2 and 3 is 3"; 4: "a name above 1023, given by the caller or in a present half", here the
+-- latter; 5: "a present half's mask 0, or above 15 for M or F"; then 6, 7 and 8 of its steps.
 unfoldable pub messageNeeds : List ℕ → List ℕ → List (ℕ × Type 0)
 messageNeeds b m =
     blockNeeds b
@@ -55,7 +58,7 @@ Wide b m o = First (λ n. (n, b)) (wideNeeds b m) (Carried b (changes (widePrevi
 unfoldable pub listNeeds : List ℕ → List ℕ → List (ℕ × Type 0)
 listNeeds b cs =
     blockNeeds b
-    ++ ((3, Each (λ n. IsKind (packedKind n)) cs)
+    ++ ((3, Each PackedWell cs)
     ∷ (4, Each (λ n. Named (packedHalf n)) cs)
     ∷ (5, Each (λ n. Masked (packedHalf n)) cs) ∷ [])
 
@@ -124,12 +127,27 @@ ReadAnswers b kind x text r b′ = TookMeans (λ n v. ReadsSet b kind x text (n,
 
 -- ---- the doors: what a crate above reads of a block
 
--- r is the key of record i, and 65,536 times its id; 0 where the block has not all of it.
-pub record PairOf (b : List ℕ) (i r : ℕ) : Type 0 where
-  pub whole : Has b i → r ≡ key b i + 65536 * id b i
+-- What is read of record i: P holds of r; it is 0 where the block has not all of the record.
+pub record OfRecord (b : List ℕ) (i : ℕ) (P : ℕ → Type 0) (r : ℕ) : Type 0 where
+  pub whole : Has b i → P r
   pub past : (Has b i → ⊥) → r ≡ 0
 
--- r is the net mask of record i; 0 where the block has not all of it.
-pub record NetOf (b : List ℕ) (i r : ℕ) : Type 0 where
-  pub whole : Has b i → Mask r (NetAt b i)
-  pub past : (Has b i → ⊥) → r ≡ 0
+-- Its key, and 65,536 times its id.
+abbrev pub PairOf : List ℕ → ℕ → ℕ → Type 0
+PairOf b i r = OfRecord b i (λ n. n ≡ key b i + 65536 * id b i) r
+
+-- Its net mask.
+abbrev pub NetOf : List ℕ → ℕ → ℕ → Type 0
+NetOf b i r = OfRecord b i (λ n. Mask n (NetAt b i)) r
+
+-- The mask of the capital letters that it counts. Of an M record, which has no small letters, that is the net mask.
+abbrev pub CapitalsOf : List ℕ → ℕ → ℕ → Type 0
+CapitalsOf b i r = OfRecord b i (λ n. Mask n (λ k. 0 < countAt b i k)) r
+
+-- M-107: its count of X, and 65,536 times its count of N.
+abbrev pub MarksOf : List ℕ → ℕ → ℕ → Type 0
+MarksOf b i r = OfRecord b i (λ n. n ≡ countAt b i markerX + 65536 * countAt b i markerN) r
+
+-- M-107: a record "counts" X: some M record does, of those that the block has all of.
+abbrev pub CountsX : List ℕ → Type 0
+CountsX b = (i : ℕ) × Of b Membership i × Has b i × (0 < countAt b i markerX)

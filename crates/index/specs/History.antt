@@ -1,4 +1,5 @@
--- 01, "The message", last paragraph, 02, M-100, and demand 3.
+-- 01, "The message", last paragraph, 02, M-100, and demand 3; M-107: "a half's marker is part of what a statement leaves and has to
+-- quote, and demand 3 counts it as a letter".
 use Prim.Native.Nat.{ℕ, _+_, _<_}
 use mathlib.Core.Path.{_≡_}
 use mathlib.Core.Bool.{cond}

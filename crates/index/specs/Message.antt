@@ -1,5 +1,5 @@
--- 01, "The message", and its steps. A message is the list of its bytes.
-use Prim.Native.Nat.{ℕ, _+_, _*_, _<_, _≤_, _/_, _%_, _^_}
+-- 01, "The message", and its steps, with M-107 for the markers. A message is the list of its bytes.
+use Prim.Native.Nat.{ℕ, _+_, _-_, _*_, _<_, _≤_, _/_, _%_, _^_}
 use mathlib.Core.Path.{_≡_}
 use mathlib.Core.Bool.{Bool, true, false, cond, _&&_}
 use mathlib.Core.List.{List, [], _∷_, _++_, map}
@@ -44,9 +44,10 @@ halfCount = 2
 abbrev pub halfLength : ℕ
 halfLength = 5
 
--- Its first two bytes.
+-- Its first two bytes. M-107: "in the kind byte, X is bit 6 and N bit 7 for the previous half, bits 4 and 5 for the new". The kind is
+-- the low four bits.
 unfoldable pub kindIn : List ℕ → ℕ
-kindIn m = getD m 0 0
+kindIn m = getD m 0 0 % 16
 
 unfoldable pub flags : List ℕ → ℕ
 flags m = getD m 1 0
@@ -55,15 +56,31 @@ flags m = getD m 1 0
 unfoldable pub present : List ℕ → ℕ → Bool
 present m h = eqb (flags m / 2 ^ h % 2) 1
 
+-- The markers of half h: 0 for none, 1 for X, 2 for N, 3 for both.
+unfoldable pub markers : List ℕ → ℕ → ℕ
+markers m h = getD m 0 0 / 2 ^ (6 - 2 * h) % 4
+
 -- Where half h begins.
 abbrev pub halfPlace : ℕ → ℕ
 halfPlace h = 2 + halfLength * h
+
+-- M-107: "Markers are taken and added with the letters": the mask of a half is its mask byte, and 256 for X, 512 for N.
+abbrev pub markerMask : ℕ
+markerMask = 256
+
+unfoldable pub maskWith : List ℕ → ℕ → ℕ → ℕ
+maskWith m h byte = byte + markerMask * markers m h
 
 -- "key (2), id (2), mask (1)": half h as its bytes have it, with the kind of the message.
 unfoldable pub halfAt : List ℕ → ℕ → Half
 halfAt m h =
     let i = halfPlace h in
-    record { kind = kindOf (kindIn m); key = number m i; id = number m (i + 2); mask = getD m (i + 4) 0 }
+    record {
+      kind = kindOf (kindIn m);
+      key = number m i;
+      id = number m (i + 2);
+      mask = maskWith m h (getD m (i + 4) 0);
+    }
 
 -- Half h, if it is present, or none; so the previous half or none, and the new half or none.
 unfoldable pub halves : List ℕ → ℕ → List Half
@@ -79,19 +96,29 @@ new m = halves m 1
 unfoldable pub Blank : List ℕ → ℕ → Type 0
 Blank m h = (j : ℕ) → j < halfLength → getD m (halfPlace h + j) 0 ≡ 0
 
-pub record WellFormed (m : List ℕ) : Type 0 where
-  pub twelve : length m ≡ messageLength
+-- M-107: "both markers in one half, a marker on an absent half or on kinds 2 and 3 is 3". The markers that a half may have: none, or one
+-- if it is present and of kind 1.
+unfoldable pub Marked : ℕ → Kind → Bool → Type 0
+Marked n kind there = (n ≡ 0) ⊎ ((n < 3) × (kind ≡ Membership) × (there ≡ true))
+
+-- What 3 asks of the first two bytes.
+pub record Begun (m : List ℕ) : Type 0 where
   pub kind : IsKind (kindIn m)
   pub some-half : (1 ≤ flags m) × (flags m ≤ 3)
+  pub marked : (h : ℕ) → h < halfCount → Marked (markers m h) (kindOf (kindIn m)) (present m h)
+
+pub record WellFormed (m : List ℕ) : Type 0 where
+  pub twelve : length m ≡ messageLength
+  pub begun : Begun m
   pub absent : (h : ℕ) → h < halfCount → present m h ≡ false → Blank m h
 
 -- "a name above 1023"
 unfoldable pub Named : Half → Type 0
 Named h = IsName (h .key) × IsName (h .id)
 
--- "mask 0, or above 15 for M or F": the mask is not 0, and the kind may have each of its letters.
+-- "mask 0, or above 15 for M or F": without its markers the mask is not 0, and the kind may have each of its letters.
 unfoldable pub Masked : Half → Type 0
-Masked h = (0 < h .mask) × ((k : ℕ) → In k (h .mask) → mayHave (h .kind) k ≡ true)
+Masked h = (0 < h .mask % markerMask) × ((k : ℕ) → In k (h .mask) → mayHave (h .kind) k ≡ true)
 
 -- ---- the steps
 
@@ -131,7 +158,7 @@ unfoldable pub ownCount : List ℕ → Half → ℕ → ℕ
 ownCount b h k = count b (h .kind) (h .key) (h .id) k
 
 -- 6: "a letter of the previous half has count 0 or no record"; 7: "a letter to add stands at 65,535"; 8: "the records do not
--- fit", where the record is not there already.
+-- fit", where the record is not there already. M-107: "a marker with nothing to take is 6, at 65,535 is 7".
 unfoldable pub changeNeeds : Change → List ℕ → List (ℕ × Type 0)
 changeNeeds (take h) b = (6, (k : ℕ) → k < letterCount → In k (h .mask) → 0 < ownCount b h k) ∷ []
 changeNeeds (add h) b =
@@ -146,8 +173,8 @@ Carried b₀ (c ∷ cs) b o =
 
 -- ---- a list of changes as 64-bit numbers, one for each change: what a crate above hands over
 
--- From the low end: 0 to take the half away or 1 to add it, in one bit; then its mask, its id and its key, 16 bits each; then
--- the number of its kind.
+-- From the low end: 0 to take the half away or 1 to add it, in one bit; then its mask, with the markers, its id and its key, 16 bits each;
+-- then the number of its kind.
 unfoldable pub packed : Bool → ℕ → ℕ → ℕ → ℕ → ℕ
 packed adds kind x y mask = cond adds 1 0 + 2 * (mask + 65536 * (y + 65536 * (x + 65536 * kind)))
 
@@ -162,6 +189,10 @@ packedHalf n =
       id = n / 2 / 65536 % 65536;
       mask = n / 2 % 65536;
     }
+
+-- What 3 asks of it: its kind, and its markers, as those of a present half.
+unfoldable pub PackedWell : ℕ → Type 0
+PackedWell n = IsKind (packedKind n) × Marked (packedHalf n .mask / markerMask) (kindOf (packedKind n)) true
 
 unfoldable pub packedChange : ℕ → Change
 packedChange n = cond (eqb (n % 2) 0) (take (packedHalf n)) (add (packedHalf n))

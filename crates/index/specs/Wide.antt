@@ -7,7 +7,7 @@ use lib.ListN.{length, getD}
 use Rattle.index.specs.declared.Kind.{Kind}
 use Rattle.index.specs.Numbers.{Each}
 use Rattle.index.specs.Block.{number}
-use Rattle.index.specs.Message.{IsKind, kindOf, Half, halfCount, kindIn, flags, present}
+use Rattle.index.specs.Message.{kindOf, Half, halfCount, kindIn, present, maskWith, Begun}
 
 -- "Its 16-byte header has kind, flags, four list lengths (previous keys, previous ids, new keys, new ids), two masks, one
 -- byte each, then four 16-bit offsets from its first byte". The lists are numbered 0 to 3: those of half h are 2 h, its keys,
@@ -45,8 +45,7 @@ ListGood m q = (1 ≤ listLength m q) × (listLength m q ≤ 8) × Rising (names
 
 pub record WideFormed (m : List ℕ) : Type 0 where
   pub header : 16 ≤ length m
-  pub kind : IsKind (kindIn m)
-  pub some-half : (1 ≤ flags m) × (flags m ≤ 3)
+  pub begun : Begun m
   pub starts : (q : ℕ) → q < 4 → listStart m q ≡ startOf m q
   pub ends : length m ≡ startOf m 4
   -- "An absent half has lengths and mask zero."
@@ -59,9 +58,9 @@ unfoldable pub pairs : Kind → ℕ → List ℕ → List ℕ → List Half
 pairs kind mask [] ys = []
 pairs kind mask (x ∷ xs) ys = map (λ y. record { kind = kind; key = x; id = y; mask = mask }) ys ++ pairs kind mask xs ys
 
--- Half h, pair by pair.
+-- Half h, pair by pair. M-107: "Wide messages and appointments carry markers", in the kind byte as a plain one does.
 unfoldable pub wideHalves : List ℕ → ℕ → List Half
-wideHalves m h = pairs (kindOf (kindIn m)) (maskIn m h) (names m (2 * h)) (names m (2 * h + 1))
+wideHalves m h = pairs (kindOf (kindIn m)) (maskWith m h (maskIn m h)) (names m (2 * h)) (names m (2 * h + 1))
 
 -- "All of the previous half is taken away, then all of the new added": `changes` of these two.
 abbrev pub widePrevious : List ℕ → List Half

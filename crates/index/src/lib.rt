@@ -5,9 +5,12 @@ mod messages;
 mod text;
 
 pub use crate::block::checks::tested;
+pub use crate::block::doors::capitals_of;
 pub use crate::block::doors::count_of;
+pub use crate::block::doors::counts_x;
 pub use crate::block::doors::id_of;
 pub use crate::block::doors::key_of;
+pub use crate::block::doors::marks_of;
 pub use crate::block::doors::net_of;
 pub use crate::block::doors::pair_of;
 pub use crate::block::doors::size_of;
@@ -22,10 +25,18 @@ pub use crate::text::sets::write_set;
 // How many bytes the header has, and a record.
 pub const HEADER: usize = 16;
 
-pub const RECORD: usize = 20;
+pub const RECORD: usize = 24;
 
-// How many letters there are.
-pub const LETTER_COUNT: usize = 8;
+// How many letters there are, the two markers among them.
+pub const LETTER_COUNT: usize = 10;
+
+// The markers, which follow the eight letters.
+pub const MARKER_X: usize = 8;
+
+pub const MARKER_N: usize = 9;
+
+// No record has more letters than so many: a permission may have the most.
+pub const MOST_LETTERS: usize = 8;
 
 // How many rights there are: they are the first letters.
 pub const RIGHTS: usize = 4;

@@ -4,18 +4,19 @@ use mathlib.Core.Path.{_≡_}
 use mathlib.Core.Bool.{Bool, true, false, cond}
 use mathlib.Core.List.{List, [], _∷_}
 use mathlib.Core.Logic.{_↔_}
+use lib.Bits.{bitOr}
 use lib.Dec.{eqb}
 use lib.ListN.{length, getD}
 use Rattle.index.specs.declared.Kind.{Kind}
 use Rattle.index.specs.declared.block.places.Found.{Found}
 use Rattle.index.specs.declared.block.places.Found.the-variants as found
 use Rattle.index.specs.declared.Kind.the-variants.{Membership, Permission, Filter}
-use Rattle.index.specs.Letters.{letterCount, rightCount, mayHave, In}
+use Rattle.index.specs.Letters.{letterCount, rightCount, markerX, markerN, mayHave, In}
 use Rattle.index.specs.Block.{greatestCount, IsName, headerLength, greatestLength, recordLength, place, countAt, from, size, records, key, id, Of, Good}
 use Rattle.index.specs.work.Bytes.{Inside}
 use Rattle.index.specs.work.Checks.{Header}
 use Rattle.index.specs.Numbers.{First}
-use Rattle.index.specs.Message.{IsKind, Half, halfCount, present, halfAt, WellFormed, Named, Masked, Change, Changed, ownCount, changeNeeds, packedKind, packedHalf, packedChange}
+use Rattle.index.specs.Message.{Half, halfCount, present, halfAt, WellFormed, Named, Masked, Change, Changed, ownCount, changeNeeds, packedHalf, PackedWell, packedChange}
 use Rattle.index.specs.Message.Change.{take, add}
 use Rattle.index.specs.work.Places.{spot, At, Gap}
 
@@ -28,9 +29,20 @@ abbrev pub fourAt : List ℕ → ℕ → ℕ → ℕ
 fourAt b i k =
     countAt b i k + 65536 * (countAt b i (k + 1) + 65536 * (countAt b i (k + 2) + 65536 * countAt b i (k + 3)))
 
--- The counts that record i may not have as one of the kind, as one number: those of the small letters, or none.
+-- Those of the two markers.
+abbrev pub twoAt : List ℕ → ℕ → ℕ
+twoAt b i = countAt b i markerX + 65536 * countAt b i markerN
+
+-- The counts of the small letters, and those of the markers, where record i may not have them as one of the kind.
 abbrev pub smallAt : List ℕ → Kind → ℕ → ℕ
 smallAt b kind i = cond (mayHave kind rightCount) 0 (fourAt b i rightCount)
+
+abbrev pub markersAt : List ℕ → Kind → ℕ → ℕ
+markersAt b kind i = cond (mayHave kind markerX) 0 (twoAt b i)
+
+-- The counts that it may not have, joined.
+abbrev pub barredAt : List ℕ → Kind → ℕ → ℕ
+barredAt b kind i = bitOr (smallAt b kind i) (markersAt b kind i)
 
 -- The records of the kind stand below `want` before number r, and not from there on.
 pub record Lowest (b : List ℕ) (kind : Kind) (want r : ℕ) : Type 0 where
@@ -137,7 +149,7 @@ changeOf false h = take h
 
 -- The change in the number n passes the test of this number.
 unfoldable pub PassesTest : ℕ → ℕ → Type 0
-PassesTest test n = cond (eqb test 3) (IsKind (packedKind n)) (cond (eqb test 4) (Named (packedHalf n)) (Masked (packedHalf n)))
+PassesTest test n = cond (eqb test 3) (PackedWell n) (cond (eqb test 4) (Named (packedHalf n)) (Masked (packedHalf n)))
 
 -- The tests have passed, of the block and of each change in the list.
 abbrev pub Prepared : List ℕ → List ℕ → Type 0

@@ -11,9 +11,20 @@ fieldDigits = 5
 abbrev pub longestPiece : ℕ
 longestPiece = 1 + fieldDigits
 
--- A record: its id, `;`, and its letters; and the `;` before the next.
+-- A record with so many letters: its id, `;`, and its letters; and the `;` before the next.
+abbrev pub recordWith : ℕ → ℕ
+recordWith n = fieldDigits + 1 + longestPiece * n + 1
+
+-- No kind may have more than these.
+abbrev pub mostLetters : ℕ
+mostLetters = 8
+
 abbrev pub longestRecord : ℕ
-longestRecord = fieldDigits + 1 + longestPiece * letterCount + 1
+longestRecord = recordWith mostLetters
 
 abbrev pub longestText : ℕ
 longestText = longestRecord * mostRecords
+
+-- Whatever the bytes of a record are.
+abbrev pub anyRecord : ℕ
+anyRecord = recordWith letterCount

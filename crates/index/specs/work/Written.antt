@@ -4,6 +4,7 @@ use mathlib.Core.Path.{_≡_}
 use mathlib.Core.List.{List, [], _∷_}
 use lib.ListN.{length, getD}
 use lib.Seq.{sets}
+use Rattle.index.specs.Letters.{letterCount, letters}
 use Rattle.index.specs.Block.{place, key}
 use Rattle.index.specs.Text.{Entry, entryAt}
 use Rattle.index.specs.work.Bytes.{Inside}
@@ -36,3 +37,8 @@ entryOf es j = getD es j (record { id = 0; counts = [] })
 pub record Filled (x i : ℕ) (es : List Entry) (n : ℕ) (b b′ : List ℕ) : Type 0 where
   pub stand : (j : ℕ) → j < n → Stands b′ x (i + j) (entryOf es j)
   pub rest : Inside (place i) (place (i + n)) b b′
+
+-- The bytes of all letters, in letter order.
+pub record TableBytes (bytes : List ℕ) : Type 0 where
+  pub ten : length bytes ≡ letterCount
+  pub each : (k : ℕ) → k < letterCount → getD bytes k 0 ≡ getD letters k 0

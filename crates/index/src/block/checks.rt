@@ -3,6 +3,7 @@
 use crate::GREATEST;
 use crate::HEADER;
 use crate::Kind;
+use crate::MARKER_X;
 use crate::NAMES;
 use crate::RECORD;
 use crate::RIGHTS;
@@ -17,8 +18,8 @@ ghost use lib.ListN.{length};
 ghost use Rattle.index.specs.Letters.{letterCount};
 ghost use Rattle.index.specs.Block.{headerLength, place, key, id, from, size, records, Good};
 ghost use Rattle.index.specs.work.Bytes.{Pair};
-ghost use Rattle.index.specs.work.Edits.{fourAt, smallAt};
-ghost use Rattle.index.specs.work.Checks.{Says, Header, Counted, Allowed, Part, Zero};
+ghost use Rattle.index.specs.work.Edits.{fourAt, twoAt, smallAt, markersAt, barredAt};
+ghost use Rattle.index.specs.work.Checks.{Says, Header, Counted, Part, Zero};
 ghost use Rattle.index.specs.Calls.{blockNeeds};
 ghost use Rattle.index.specs.Numbers.{Answers};
 
@@ -71,7 +72,15 @@ fn four_at(b: &[u8], i: usize, k: usize) -> usize
     (pair_at(b, at) as usize) + PAIRS * (pair_at(b, at + 4) as usize)
 }
 
-// The counts that record i may not have as one of the kind, as one number: those of the small letters, or none.
+// The counts of the two markers in record i, as one number.
+pub(crate) fn two_at(b: &[u8], i: usize) -> usize
+    requires { ⌜ place (i + 1) ≤ length (now b) ⌝ }
+    ensures { λ r. ⌜ r ≡ twoAt (now (b .entry)) i ⌝ }
+{
+    pair_at(b, HEADER + RECORD * i + 4 + 2 * MARKER_X) as usize
+}
+
+// The counts of the small letters in record i, where it may not have them as one of the kind, or none.
 fn small_at(b: &[u8], kind: Kind, i: usize) -> usize
     requires { ⌜ place (i + 1) ≤ length (now b) ⌝ }
     ensures { λ r. ⌜ r ≡ smallAt (now (b .entry)) kind i ⌝ }
@@ -82,21 +91,37 @@ fn small_at(b: &[u8], kind: Kind, i: usize) -> usize
     four_at(b, i, RIGHTS)
 }
 
-// Whether record i has a count above zero, provided that it has no count which it may not have as one of the kind.
-fn has_count(b: &[u8], kind: Kind, i: usize) -> bool
+// The counts of the markers in record i, where it may not have them as one of the kind, or none.
+fn markers_at(b: &[u8], kind: Kind, i: usize) -> usize
     requires { ⌜ place (i + 1) ≤ length (now b) ⌝ }
-    ensures { λ r. ⌜ (Allowed (now (b .entry)) kind i → Says (Counted (now (b .entry)) i) r) ⌝ }
+    ensures { λ r. ⌜ r ≡ markersAt (now (b .entry)) kind i ⌝ }
+{
+    if may_have(kind, MARKER_X) {
+        return 0;
+    }
+    two_at(b, i)
+}
+
+// The counts that record i may not have as one of the kind, joined.
+fn barred_at(b: &[u8], kind: Kind, i: usize) -> usize
+    requires { ⌜ place (i + 1) ≤ length (now b) ⌝ }
+    ensures { λ r. ⌜ r ≡ barredAt (now (b .entry)) kind i ⌝ }
+{
+    small_at(b, kind, i) | markers_at(b, kind, i)
+}
+
+// Record i has a count above zero. Mostly it has a capital letter.
+fn has_count(b: &[u8], i: usize) -> bool
+    requires { ⌜ place (i + 1) ≤ length (now b) ⌝ }
+    ensures { λ r. ⌜ Says (Counted (now (b .entry)) i) r ⌝ }
 {
     if four_at(b, i, 0) != 0 {
         return true;
     }
-    if !may_have(kind, RIGHTS) {
-        return false;
+    if four_at(b, i, RIGHTS) != 0 {
+        return true;
     }
-    if four_at(b, i, RIGHTS) == 0 {
-        return false;
-    }
-    true
+    0 < two_at(b, i)
 }
 
 // Key and id of record i as one number, the key in the high half: records rise by it, whatever their keys and ids are.
@@ -110,7 +135,7 @@ fn rank_at(b: &[u8], i: usize) -> u32
 
 // The records numbered i to j - 1, as ones of the kind. Each stands at `least` or higher by key and id. All keys and ids
 // are joined in `names`, so that after the last record one look at it tells whether they are names. All counts that they
-// may not have are joined in `small`, which must be zero then.
+// may not have are joined in `barred`, which must be zero then.
 fn part_good(b: &[u8], kind: Kind, i: usize, j: usize) -> bool
     requires { ⌜ place j ≤ length (now b) ⌝ }
     ensures { λ r. ⌜ Says (Part (now (b .entry)) kind i j) r ⌝ }
@@ -118,21 +143,21 @@ fn part_good(b: &[u8], kind: Kind, i: usize, j: usize) -> bool
     let mut n = i;
     let mut least = 0;
     let mut names = 0u32;
-    let mut small = 0;
+    let mut barred = 0;
     while n < j {
         let rank = rank_at(b, n);
         if (rank as usize) < least {
             return false;
         }
-        if !has_count(b, kind, n) {
+        if !has_count(b, n) {
             return false;
         }
         names |= rank;
-        small |= small_at(b, kind, n);
+        barred |= barred_at(b, kind, n);
         least = (rank as usize) + 1;
         n += 1;
     }
-    if small != 0 {
+    if barred != 0 {
         return false;
     }
     if names / NUMBERS >= (NAMES as u32) {
@@ -183,7 +208,7 @@ fn good(b: &[u8]) -> bool
     zero_from(b, number_at(b, 14))
 }
 
-// 1 for a block that is not 16 to 40,976 bytes long, 2 for one that is not good, else 0.
+// 1 for a block that is not 16 to 49,168 bytes long, 2 for one that is not good, else 0.
 pub fn tested(b: &[u8]) -> u8
     ensures { λ r. ⌜ Answers (blockNeeds (now (b .entry))) r ⌝ }
 {

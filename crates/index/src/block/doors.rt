@@ -1,10 +1,13 @@
-// What a crate above reads of a block. Every door answers for every input: bytes past the end count as 0; `pair_of` and `net_of` give 0
-// for a record that the block has not all of.
+// What a crate above reads of a block. Every door answers for every input: bytes past the end count as 0; `pair_of`, `net_of`, `capitals_of`
+// and `marks_of` give 0 for a record that the block has not all of.
 
 use crate::HEADER;
 use crate::Kind;
 use crate::LETTER_COUNT;
+use crate::MARKER_X;
 use crate::RECORD;
+use crate::RIGHTS;
+use crate::block::checks::two_at;
 use crate::block::letters::CAPITAL_M;
 use crate::block::letters::CAPITAL_P;
 use crate::block::letters::CAPITAL_R;
@@ -17,11 +20,14 @@ use crate::block::letters::mask_of;
 use crate::block::numbers::pair_at;
 use crate::block::records::count_at;
 ghost use mathlib.Core.Path.{_≡_};
-ghost use Prim.Native.Nat.{_^_, _<_};
+ghost use mathlib.Core.Bool.{true};
+ghost use mathlib.Core.Logic.{_↔_};
+ghost use Prim.Native.Nat.{ℕ, _^_, _<_};
+ghost use Rattle.index.specs.declared.Kind.the-variants.{Membership};
 ghost use Rattle.index.specs.Letters.{letterCount, Mask};
-ghost use Rattle.index.specs.Block.{number, size, key, id, countAt, NetAt, Has};
+ghost use Rattle.index.specs.Block.{number, size, key, id, countAt, Of, NetAt, Has};
 ghost use Rattle.index.specs.work.Checks.{Says};
-ghost use Rattle.index.specs.Calls.{PairOf, NetOf};
+ghost use Rattle.index.specs.Calls.{PairOf, NetOf, CapitalsOf, MarksOf, CountsX};
 
 // The 16-bit number at a byte.
 fn number_of(b: &[u8], at: usize) -> u16
@@ -73,14 +79,21 @@ pub fn count_of(b: &[u8], i: u16, k: u8) -> u16
     0
 }
 
+// How many records the block has all of.
+fn whole_records(b: &[u8]) -> usize
+    ensures { λ r. ⌜ ((i : ℕ) → (i < r) ↔ Has (now (b .entry)) i) ⌝ }
+{
+    if b.len() < HEADER {
+        return 0;
+    }
+    (b.len() - HEADER) / RECORD
+}
+
 // The block has all of record i.
 fn whole(b: &[u8], i: usize) -> bool
     ensures { λ r. ⌜ Says (Has (now (b .entry)) i) r ⌝ }
 {
-    if b.len() < HEADER {
-        return false;
-    }
-    i < (b.len() - HEADER) / RECORD
+    i < whole_records(b)
 }
 
 // Key and id of record i, as one number; 0 where the block has not all of it.
@@ -132,4 +145,66 @@ pub fn net_of(b: &[u8], i: usize) -> u8
         return net_at(b, i);
     }
     0
+}
+
+// The capital letters that record i counts, as a mask.
+fn capitals_at(b: &[u8], i: usize) -> u8
+    requires { ⌜ Has (now b) i ⌝ }
+    ensures { λ r. ⌜ Mask r (λ k. 0 < countAt (now (b .entry)) i k) ⌝ }
+{
+    let mut mask: u8 = 0;
+    let mut k: u8 = 0;
+    while k < RIGHTS as u8 {
+        if above_zero(b, i, k) {
+            mask = mask | mask_of(k);
+        }
+        k += 1;
+    }
+    mask
+}
+
+// The same; 0 where the block has not all of it.
+pub fn capitals_of(b: &[u8], i: usize) -> u8
+    ensures { λ r. ⌜ CapitalsOf (now (b .entry)) i r ⌝ }
+{
+    if whole(b, i) {
+        return capitals_at(b, i);
+    }
+    0
+}
+
+// The counts of X and N in record i, as one number; 0 where the block has not all of it.
+pub fn marks_of(b: &[u8], i: usize) -> usize
+    ensures { λ r. ⌜ MarksOf (now (b .entry)) i r ⌝ }
+{
+    if whole(b, i) {
+        return two_at(b, i);
+    }
+    0
+}
+
+// How many M records the block has all of.
+fn whole_members(b: &[u8]) -> usize
+    ensures { λ r. ⌜ ((i : ℕ) → (i < r) ↔ (Of (now (b .entry)) Membership i × Has (now (b .entry)) i)) ⌝ }
+{
+    let all = whole_records(b);
+    let size = size_of(b, Kind::Membership) as usize;
+    if size < all {
+        return size;
+    }
+    all
+}
+
+// Some M record counts X. All their counts of X are joined, and one look at the end tells.
+pub fn counts_x(b: &[u8]) -> bool
+    ensures { λ r. ⌜ (r ≡ true) ↔ CountsX (now (b .entry)) ⌝ }
+{
+    let end = whole_members(b);
+    let mut seen = 0;
+    let mut i = 0;
+    while i < end {
+        seen |= count_at(b, i, MARKER_X);
+        i += 1;
+    }
+    0 < seen
 }

@@ -1,8 +1,10 @@
-// The table of the letters, used by writer, reader and net mask.
+// The table of the letters and the markers, used by writer, reader and net mask.
 
-use crate::ALL;
 use crate::Kind;
 use crate::LETTER_COUNT;
+use crate::MARKER_N;
+use crate::MARKER_X;
+use crate::RIGHTS;
 ghost use mathlib.Core.Path.{_≡_};
 ghost use mathlib.Core.Bool.{true};
 ghost use Prim.Native.Nat.{ℕ, _<_, _^_};
@@ -11,10 +13,11 @@ ghost use Rattle.index.specs.Letters.{letterCount, rightCount, letters, 
 ghost use Rattle.index.specs.work.Checks.{Says};
 ghost use Rattle.index.specs.work.Edits.{Letters};
 ghost use Rattle.index.specs.work.Reading.{byteOf, BytesOf};
+ghost use Rattle.index.specs.work.Written.{TableBytes};
 
 // A letter of a set's text, with the mask of what it stands for.
 pub struct Letter {
-    pub mask: u8,
+    pub mask: u16,
     pub byte: u8,
 }
 
@@ -51,6 +54,14 @@ pub const LETTERS: [Letter; LETTER_COUNT] = [
         mask: 128,
         byte: b'p',
     },
+    Letter {
+        mask: 256,
+        byte: b'X',
+    },
+    Letter {
+        mask: 512,
+        byte: b'N',
+    },
 ];
 
 // The place of each letter in the table: the capital letters, which are the rights, then the small letters, which deny them.
@@ -84,20 +95,24 @@ pub(crate) fn mask_of(k: u8) -> u8
     ensures { λ r. ⌜ r ≡ 2 ^ k ⌝ }
 {
     let letter = letter_at(k as usize);
-    letter.mask
+    letter.mask as u8
 }
 
-// The mask of all letters.
-const EVERY: usize = (1 << LETTER_COUNT) - 1;
+// The mask of the capital letters, of all eight letters, and of the capital letters with the two markers.
+const CAPITALS: usize = (1 << RIGHTS) - 1;
+
+const EIGHT: usize = (1 << MARKER_X) - 1;
+
+const MARKED: usize = CAPITALS + (1 << MARKER_X) + (1 << MARKER_N);
 
 // The mask of the letters that a record of the kind may have. Nothing else in the code says which they are.
 pub(crate) fn letters_of(kind: Kind) -> usize
     ensures { λ r. ⌜ Letters kind r ⌝ }
 {
     match kind {
-        Kind::Membership => ALL as usize,
-        Kind::Permission => EVERY,
-        Kind::Filter => ALL as usize,
+        Kind::Membership => MARKED,
+        Kind::Permission => EIGHT,
+        Kind::Filter => CAPITALS,
     }
 }
 
@@ -116,6 +131,20 @@ pub(crate) fn may_have_all(kind: Kind, mask: usize) -> bool
     mask & letters_of(kind) == mask
 }
 
+// The bytes of all letters. A writer takes them from the table once for a set, since taking an entry copies the table.
+pub(crate) fn table_bytes() -> [u8; LETTER_COUNT]
+    ensures { λ r. ⌜ TableBytes r ⌝ }
+{
+    let mut bytes = [0u8; LETTER_COUNT];
+    let mut k = 0;
+    while k < LETTER_COUNT {
+        let letter = letter_at(k);
+        bytes[k] = letter.byte;
+        k += 1;
+    }
+    bytes
+}
+
 // No byte is this number.
 const NO_BYTE: u16 = 256;
 
@@ -131,7 +160,7 @@ fn byte_of(kind: Kind, k: usize) -> u16
     NO_BYTE
 }
 
-// The bytes of all letters, as a record of the kind may have them. A reader takes them from the table once, since taking an entry copies the table.
+// The bytes of all letters, as a record of the kind may have them. A reader takes them from the table once for a text.
 pub(crate) fn letter_bytes(kind: Kind) -> [u16; LETTER_COUNT]
     ensures { λ r. ⌜ (length r ≡ letterCount) × BytesOf kind r ⌝ }
 {

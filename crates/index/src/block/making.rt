@@ -6,7 +6,7 @@ use crate::block::moves::clear;
 use crate::block::moves::put_header;
 ghost use Rattle.index.specs.Calls.{Makes};
 
-// Make an empty block, as long as it was; 1 where that is not 16 to 40,976 bytes.
+// Make an empty block, as long as it was; 1 where that is not 16 to 49,168 bytes.
 pub fn make(block: &mut [u8]) -> u8
     ensures { λ r. ⌜ Makes (now (block .entry)) (r, now (block .exit)) ⌝ }
 {

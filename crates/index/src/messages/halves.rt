@@ -1,13 +1,14 @@
-// The two halves of a message by their number, 0 for the previous one and 1 for the new one; the parts of a half, and its tests.
+// The kind of a message, and its two halves by their number, 0 for the previous one and 1 for the new one; the parts of a half, and its tests.
 
+use crate::MARKER_X;
 use crate::NAMES;
 use crate::block::kinds::kind_of;
 use crate::block::letters::may_have_all;
 use crate::block::numbers::number_at;
 ghost use mathlib.Core.Path.{_≡_};
-ghost use Prim.Native.Nat.{_<_};
+ghost use Prim.Native.Nat.{_<_, _/_};
 ghost use lib.ListN.{length};
-ghost use Rattle.index.specs.Message.{kindOf, messageLength, halfCount, present, halfAt, Named, Masked};
+ghost use Rattle.index.specs.Message.{kindOf, messageLength, halfCount, kindIn, present, markers, markerMask, halfAt, Marked, Named, Masked};
 ghost use Rattle.index.specs.work.Checks.{Says};
 ghost use Rattle.index.specs.work.Edits.{half};
 
@@ -21,7 +22,10 @@ pub(crate) const PREVIOUS: usize = 0;
 
 pub(crate) const NEW: usize = 1;
 
-// A half, with the number of its kind.
+// The mask of the first marker: a half's markers stand in its mask so many times.
+const MARKER: usize = 1 << MARKER_X;
+
+// A half, with the number of its kind; its markers are in its mask.
 pub(crate) struct Half {
     pub(crate) kind: u64,
     pub(crate) x: usize,
@@ -37,20 +41,36 @@ pub(crate) fn is_present(m: &[u8], h: usize) -> bool
     (m[1] >> h) % 2 == 1
 }
 
+// The number of a message's kind: the low four bits of the kind byte.
+pub(crate) fn kind_in(m: &[u8]) -> u64
+    requires { ⌜ length (now m) ≡ messageLength ⌝ }
+    ensures { λ r. ⌜ (r ≡ kindIn (now (m .entry))) × (r < 16) ⌝ }
+{
+    (m[0] % 16) as u64
+}
+
+// The markers of half h of a message: 0 for none, 1 for X, 2 for N, 3 for both.
+pub(crate) fn markers_of(m: &[u8], h: usize) -> usize
+    requires { ⌜ (length (now m) ≡ messageLength) × (h < halfCount) ⌝ }
+    ensures { λ r. ⌜ (r ≡ markers (now (m .entry)) h) × (r < 4) ⌝ }
+{
+    ((m[0] >> (6 - 2 * h)) % 4) as usize
+}
+
 // Half h of a message, as its bytes have it.
 pub(crate) fn half_at(m: &[u8], h: usize) -> Half
     requires { ⌜ (length (now m) ≡ messageLength) × (h < halfCount) ⌝ }
     ensures { λ r. ⌜ half (kindOf (r .kind)) (r .x) (r .y) (r .mask) ≡ halfAt (now (m .entry)) h ⌝ }
-    ensures { λ r. ⌜ (r .kind < 256) × (r .x < 65536) × (r .y < 65536) × (r .mask < 256) ⌝ }
+    ensures { λ r. ⌜ (r .kind < 16) × (r .x < 65536) × (r .y < 65536) × (r .mask < 1024) ⌝ }
 {
     let i = FIRST + HALF * h;
     let x = number_at(m, i);
     let y = number_at(m, i + 2);
     Half {
-        kind: m[0] as u64,
+        kind: kind_in(m),
         x,
         y,
-        mask: m[i + 4] as usize,
+        mask: (m[i + 4] as usize) + MARKER * markers_of(m, h),
     }
 }
 
@@ -64,11 +84,34 @@ pub(crate) fn is_named(h: Half) -> bool
     h.y < NAMES
 }
 
-// Its mask is not 0, and its kind may have each letter of it.
+// A half of this kind may have these markers: none, or one if it is present and of kind 1.
+pub(crate) fn is_marked(markers: usize, kind: u64, there: bool) -> bool
+    ensures { λ r. ⌜ Says (Marked markers (kindOf kind) there) r ⌝ }
+{
+    if markers == 0 {
+        return true;
+    }
+    if markers > 2 {
+        return false;
+    }
+    if kind != 1 {
+        return false;
+    }
+    there
+}
+
+// The markers in the mask of a half.
+pub(crate) fn markers_in(h: Half) -> usize
+    ensures { λ r. ⌜ r ≡ h .mask / markerMask ⌝ }
+{
+    h.mask / MARKER
+}
+
+// Its mask is not 0 without the markers, and its kind may have each letter of it.
 pub(crate) fn is_masked(h: Half) -> bool
     ensures { λ r. ⌜ Says (Masked (half (kindOf (h .kind)) (h .x) (h .y) (h .mask))) r ⌝ }
 {
-    if h.mask == 0 {
+    if h.mask % MARKER == 0 {
         return false;
     }
     may_have_all(kind_of(h.kind), h.mask)

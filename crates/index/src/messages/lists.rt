@@ -1,8 +1,10 @@
 // A list of changes from a crate above: its tests, and what it does.
 
 use crate::block::checks::tested;
+use crate::messages::halves::is_marked;
 use crate::messages::halves::is_masked;
 use crate::messages::halves::is_named;
+use crate::messages::halves::markers_in;
 use crate::messages::run::half_in;
 use crate::messages::run::run;
 ghost use Rattle.index.specs.Numbers.{Answers, Each};
@@ -10,7 +12,7 @@ ghost use Rattle.index.specs.Calls.{listNeeds, CarriesOut};
 ghost use Rattle.index.specs.work.Checks.{Says};
 ghost use Rattle.index.specs.work.Edits.{PassesTest};
 
-// One change passes the test of this number: 3 its kind, 4 its names, 5 its mask.
+// One change passes the test of this number: 3 its kind and its markers, 4 its names, 5 its mask.
 fn passes(test: u8, n: u64) -> bool
     ensures { λ r. ⌜ Says (PassesTest test n) r ⌝ }
 {
@@ -22,7 +24,7 @@ fn passes(test: u8, n: u64) -> bool
         if h.kind > 3 {
             return false;
         }
-        return true;
+        return is_marked(markers_in(h), h.kind, true);
     }
     if test == 4 {
         return is_named(h);

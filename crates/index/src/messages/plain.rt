@@ -8,16 +8,19 @@ use crate::messages::halves::HALF;
 use crate::messages::halves::NEW;
 use crate::messages::halves::PREVIOUS;
 use crate::messages::halves::half_at;
+use crate::messages::halves::is_marked;
 use crate::messages::halves::is_masked;
 use crate::messages::halves::is_named;
 use crate::messages::halves::is_present;
+use crate::messages::halves::kind_in;
+use crate::messages::halves::markers_of;
 ghost use mathlib.Core.Path.{_≡_};
 ghost use mathlib.Core.Bool.{false};
 ghost use mathlib.Core.List.{_++_};
 ghost use Prim.Native.Nat.{_<_};
 ghost use lib.ListN.{length};
 ghost use Rattle.index.specs.Numbers.{Answers, Each};
-ghost use Rattle.index.specs.Message.{messageLength, halfCount, present, halves, previous, new, Blank, WellFormed, Named, Masked};
+ghost use Rattle.index.specs.Message.{kindOf, messageLength, halfCount, kindIn, present, markers, halves, previous, new, Marked, Begun, Blank, WellFormed, Named, Masked};
 ghost use Rattle.index.specs.Calls.{messageNeeds, Message};
 ghost use Rattle.index.specs.work.Checks.{Says};
 
@@ -40,14 +43,20 @@ fn blank(m: &[u8], h: usize) -> bool
     true
 }
 
-// The message is 12 bytes; kind, flags and an absent half are right.
-fn well_formed(m: &[u8]) -> bool
-    ensures { λ r. ⌜ Says (WellFormed (now (m .entry))) r ⌝ }
+// Half h may have its markers.
+fn markers_good(m: &[u8], h: usize) -> bool
+    requires { ⌜ (length (now m) ≡ messageLength) × (h < halfCount) ⌝ }
+    ensures { λ r. ⌜ Says (Marked (markers (now (m .entry)) h) (kindOf (kindIn (now (m .entry)))) (present (now (m .entry)) h)) r ⌝ }
 {
-    if m.len() != MESSAGE {
-        return false;
-    }
-    let kind = m[0];
+    is_marked(markers_of(m, h), kind_in(m), is_present(m, h))
+}
+
+// Kind, flags and markers are right.
+fn begun(m: &[u8]) -> bool
+    requires { ⌜ length (now m) ≡ messageLength ⌝ }
+    ensures { λ r. ⌜ Says (Begun (now (m .entry))) r ⌝ }
+{
+    let kind = kind_in(m);
     if kind < 1 {
         return false;
     }
@@ -59,6 +68,22 @@ fn well_formed(m: &[u8]) -> bool
         return false;
     }
     if flags > 3 {
+        return false;
+    }
+    if !markers_good(m, PREVIOUS) {
+        return false;
+    }
+    markers_good(m, NEW)
+}
+
+// The message is 12 bytes; kind, flags, markers and an absent half are right.
+fn well_formed(m: &[u8]) -> bool
+    ensures { λ r. ⌜ Says (WellFormed (now (m .entry))) r ⌝ }
+{
+    if m.len() != MESSAGE {
+        return false;
+    }
+    if !begun(m) {
         return false;
     }
     if !blank(m, PREVIOUS) {

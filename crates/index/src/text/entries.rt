@@ -3,7 +3,6 @@
 use crate::GREATEST_NAME;
 use crate::Kind;
 use crate::LETTER_COUNT;
-use crate::block::letters::letter_bytes;
 use crate::text::reading::Cursor;
 use crate::text::reading::Piece;
 use crate::text::reading::count;
@@ -18,7 +17,7 @@ ghost use lib.ListN.{length, drop};
 ghost use Rattle.index.specs.Block.{IsName};
 ghost use Rattle.index.specs.Letters.{letterCount, letters};
 ghost use Rattle.index.specs.Text.{Entry, IsSet};
-ghost use Rattle.index.specs.work.Reading.{noByte, readLetter, readCounts, total, readRecord};
+ghost use Rattle.index.specs.work.Reading.{BytesOf, noByte, readLetter, readCounts, total, readRecord};
 ghost use Rattle.index.specs.work.Reading.Parsed.{got};
 ghost use Rattle.index.specs.work.Pieces.{SeesNumber, SeesLetters, SeesEntry, rest};
 
@@ -38,13 +37,19 @@ fn counted(text: &[u8], c: Cursor, byte: u16) -> Piece
     }
 }
 
-// The counts of the letters at the cursor, into `out`.
-fn counts(text: &[u8], c: Cursor, kind: Kind, out: &mut [usize; LETTER_COUNT]) -> Piece
+// The counts of the letters at the cursor, into `out`. `bytes` are those that a record of the kind may have.
+fn counts(
+    text: &[u8],
+    c: Cursor,
+    kind: Kind,
+    bytes: &[u16; LETTER_COUNT],
+    out: &mut [usize; LETTER_COUNT],
+) -> Piece
     requires { ⌜ length (now out) ≡ letterCount ⌝ }
+    requires { ⌜ (length (now bytes) ≡ letterCount) × BytesOf kind (now bytes) ⌝ }
     ensures { λ r. ⌜ length (now (out .exit)) ≡ letterCount ⌝ }
     ensures { λ r. ⌜ SeesLetters (now (text .entry)) r (now (out .exit)) (readCounts kind 0 letters (drop (c .at) (now (text .entry)))) ⌝ }
 {
-    let bytes = letter_bytes(kind);
     let mut here = c;
     let mut k = 0;
     while k < LETTER_COUNT {
@@ -79,10 +84,12 @@ pub(crate) fn read_record(
     text: &[u8],
     c: Cursor,
     kind: Kind,
+    bytes: &[u16; LETTER_COUNT],
     least: usize,
     out: &mut [usize; LETTER_COUNT],
 ) -> Piece
     requires { ⌜ (length (now out) ≡ letterCount) × IsName least ⌝ }
+    requires { ⌜ (length (now bytes) ≡ letterCount) × BytesOf kind (now bytes) ⌝ }
     ensures { λ r. ⌜ length (now (out .exit)) ≡ letterCount ⌝ }
     ensures { λ r. ⌜ SeesEntry (now (text .entry)) r (now (out .exit)) (readRecord kind least (drop (c .at) (now (text .entry)))) ⌝ }
 {
@@ -94,7 +101,7 @@ pub(crate) fn read_record(
     let Piece::Mark(start) = sign else {
         return sign;
     };
-    let pieces = counts(text, start, kind, out);
+    let pieces = counts(text, start, kind, bytes, out);
     let Piece::Letters(next) = pieces else {
         return pieces;
     };
@@ -111,10 +118,12 @@ pub(crate) fn take_record(
     text: &[u8],
     c: Cursor,
     kind: Kind,
+    bytes: &[u16; LETTER_COUNT],
     begun: bool,
     out: &mut [usize; LETTER_COUNT],
 ) -> Piece
     requires { ⌜ length (now out) ≡ letterCount ⌝ }
+    requires { ⌜ (length (now bytes) ≡ letterCount) × BytesOf kind (now bytes) ⌝ }
     ensures { λ r. ⌜ length (now (out .exit)) ≡ letterCount ⌝ }
     ensures { λ r. ⌜ ((e : Entry) (es : List Entry) → IsSet kind (e ∷ es) → drop (c .at) (now (text .entry)) ≡ rest begun (e ∷ es)
         → SeesEntry (now (text .entry)) r (now (out .exit)) (got e (rest true es))) ⌝ }
@@ -124,7 +133,7 @@ pub(crate) fn take_record(
         let Piece::Mark(start) = sign else {
             return sign;
         };
-        return read_record(text, start, kind, 0, out);
+        return read_record(text, start, kind, bytes, 0, out);
     }
-    read_record(text, c, kind, 0, out)
+    read_record(text, c, kind, bytes, 0, out)
 }

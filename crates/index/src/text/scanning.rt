@@ -4,6 +4,7 @@ use crate::GREATEST_NAME;
 use crate::Kind;
 use crate::LETTER_COUNT;
 use crate::Took;
+use crate::block::letters::letter_bytes;
 use crate::text::entries::read_record;
 use crate::text::reading::Cursor;
 use crate::text::reading::Piece;
@@ -44,12 +45,13 @@ pub(crate) fn scan_text(text: &[u8], kind: Kind) -> Took
     if text.len() == 0 {
         return Took::Set(0);
     }
+    let bytes = letter_bytes(kind);
     let mut out = [0usize; LETTER_COUNT];
     let mut here = Cursor { at: 0 };
     let mut least = 0;
     let mut n = 0;
     loop {
-        let entry = read_record(text, here, kind, least, &mut out);
+        let entry = read_record(text, here, kind, &bytes, least, &mut out);
         let Piece::Number(name, next) = entry else {
             return refused(text, entry);
         };

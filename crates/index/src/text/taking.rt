@@ -3,6 +3,7 @@
 use crate::Kind;
 use crate::LETTER_COUNT;
 use crate::Took;
+use crate::block::letters::letter_bytes;
 use crate::block::records::put_entry;
 use crate::text::entries::take_record;
 use crate::text::reading::Cursor;
@@ -21,11 +22,13 @@ pub(crate) fn fill(b: &mut [u8], first: usize, text: &[u8], kind: Kind, key: usi
     requires { ⌜ Scanned kind (now text) (Took.Set n) ⌝ }
     ensures { λ _. ⌜ ((es : List Entry) → Writes kind es (now (text .entry)) → Filled key first es n (now (b .entry)) (now (b .exit))) ⌝ }
 {
+    let bytes = letter_bytes(kind);
     let mut counts = [0usize; LETTER_COUNT];
     let mut here = Cursor { at: 0 };
     let mut i = 0;
     while i < n {
-        let Piece::Number(name, next) = take_record(text, here, kind, 0 < i, &mut counts) else {
+        let Piece::Number(name, next) = take_record(text, here, kind, &bytes, 0 < i, &mut counts)
+        else {
             return;
         };
         put_entry(b, first + i, key, name, &counts);

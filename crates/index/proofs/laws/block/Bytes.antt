@@ -1,6 +1,6 @@
 -- A number in a block.
 use Prim.Native.Nat.{ℕ, _+_, _*_, _/_, _%_, _<_, _≤_}
-use mathlib.Core.Path.{_≡_, refl, _∙_}
+use mathlib.Core.Path.{_≡_, refl, _∙_, ap}
 use mathlib.Core.List.{List}
 use mathlib.Core.Logic.{⊎-elim}
 use native.Mathlib.Omega.{arith}
@@ -72,6 +72,9 @@ number-small b i h = omega (arith, h i, h (i + 1))
 pub count-number : (b : List ℕ) (i k : ℕ) → k < letterCount → countAt b i k ≡ number b (place i + 4 + 2 * k)
 unfolding countAt
 count-number b i k h = simp (lt-ltb k letterCount h)
+
+pub count-in : (b : List ℕ) (i k p : ℕ) → k < letterCount → place i + 4 + 2 * k ≡ p → countAt b i k ≡ number b p
+count-in b i k p h e = count-number b i k h ∙ ap (number b) e
 
 pub count-out : (b : List ℕ) (i k : ℕ) → letterCount ≤ k → countAt b i k ≡ 0
 unfolding countAt

@@ -1,22 +1,24 @@
 -- A block is good where its header, its three parts and its tail are, and then only.
 use Prim.Native.Nat.{ℕ, zero, suc, _+_, _-_, _/_, _%_, _<_, _≤_}
-use mathlib.Core.Path.{_≡_, refl}
-use mathlib.Core.Bool.{Bool, true, false}
+use mathlib.Core.Path.{_≡_, refl, sym, _∙_}
+use mathlib.Core.Bool.{Bool, true, false, cond}
 use mathlib.Core.Logic.{⊎-elim}
 use mathlib.Core.List.{List}
 use native.Mathlib.Omega.{arith}
-use borrow.Author.Tests.{eqb-true, eqb-false, ltb-false, le-ltb}
-use lib.Bits.{bitOr, or-shr, or-mod}
-use lib.Dec.{eqb}
+use borrow.Author.Tests.{eqb-true, eqb-false}
+use lib.Bits.{bitOr, or-shr, or-mod, or-add-and, and-le-l, and-le-r}
+use lib.Dec.{eqb, ltb}
 use lib.ListN.{length, getD, List·getD-eq-default}
 use Rattle.index.specs.declared.Kind.{Kind}
 use Rattle.index.specs.declared.Kind.the-variants.{Membership, Permission, Filter}
-use Rattle.index.specs.Letters.{letterCount, rightCount, mayHave}
+use Rattle.index.specs.Letters.{letterCount, rightCount, markerX, markerN, mayHave}
 use Rattle.index.specs.Block.{IsName, place, key, id, countAt, from, size, records, Before, Good}
 use Rattle.index.specs.work.Bytes.{Pair}
 use Rattle.index.specs.work.Checks.{Says, Header, Counted, Allowed, Part, Zero}
-use Rattle.index.specs.work.Edits.{fourAt, smallAt}
+use Rattle.index.specs.work.Edits.{fourAt, twoAt, smallAt, markersAt, barredAt}
+use Rattle.index.proofs.laws.Answer.{says-same, less-says}
 use Rattle.index.proofs.laws.block.Bytes.{count-out}
+use Rattle.index.proofs.laws.block.MayHave.{capital, not-both, small-alike, marker-alike}
 use Rattle.index.proofs.laws.Range.{lt-or-le, from-more}
 use Rattle.index.proofs.laws.block.Records.{before-spot}
 use Rattle.index.proofs.laws.block.Seen.{Seen, seen-none, seen-more}
@@ -49,34 +51,65 @@ module _ (b : List ℕ) (i s : ℕ) where
   four-none e k l h = let q : s + (k - s) ≡ k = omega arith in rw q at (none e (k - s) (omega arith))
 
 module _ (b : List ℕ) (i : ℕ) where
-  pub counted-of : (s : ℕ) → s + 4 ≤ letterCount → 0 < fourAt b i s → Counted b i
-  counted-of s l h = let w = some b i s h in (s + w .0, omega (arith, w .1), w .2)
+  pub four-counted : (s : ℕ) → s + 4 ≤ letterCount → 0 < fourAt b i s → Counted b i
+  four-counted s l h = let w = some b i s h in (s + w .0, omega (arith, w .1), w .2)
 
-  pub after-none : (s : ℕ) → letterCount ≤ s + 4 → fourAt b i s ≡ 0 → (k : ℕ) → s ≤ k → countAt b i k ≡ 0
-  after-none s l e k m = ⊎-elim (λ h. four-none b i s e k m h) (λ h. count-out b i k (omega arith)) (lt-or-le k (s + 4))
+  two-counted : 0 < twoAt b i → Counted b i
+  two-counted h =
+      ⊎-elim (λ p. (markerX, omega arith, p)) (λ (p : countAt b i markerX ≤ 0). (markerN, omega arith, omega arith))
+      (lt-or-le 0 (countAt b i markerX))
 
-  pub none-after : (s : ℕ) → ((k : ℕ) → s ≤ k → countAt b i k ≡ 0) → fourAt b i s ≡ 0
-  none-after s all =
-      omega
-      (arith, all s (omega arith), all (s + 1) (omega arith), all (s + 2) (omega arith), all (s + 3) (omega arith))
+  two-none : twoAt b i ≡ 0 → (k : ℕ) → markerX ≤ k → countAt b i k ≡ 0
+  two-none e k l =
+      ⊎-elim (λ h. let z : k ≡ markerX = omega arith in rw z (omega arith))
+      (λ h.
+      ⊎-elim (λ m. let z : k ≡ markerN = omega arith in rw z (omega arith)) (λ m. count-out b i k m) (lt-or-le k letterCount))
+      (lt-or-le k markerN)
 
-  pub not-counted : fourAt b i 0 ≡ 0 → ((k : ℕ) → 4 ≤ k → countAt b i k ≡ 0) → Counted b i → ⊥
-  not-counted d all c =
-      ⊎-elim (λ h. omega (arith, c .2, four-none b i 0 d (c .0) (omega arith) h)) (λ h. omega (arith, c .2, all (c .0) h))
-      (lt-or-le (c .0) 4)
+  -- Where the four capital letters and the four small ones count nothing, the markers decide.
+  pub markers-say : fourAt b i 0 ≡ 0 → fourAt b i rightCount ≡ 0 → Says (Counted b i) (ltb 0 (twoAt b i))
+  markers-say d e = says-same (ltb 0 (twoAt b i)) two-counted only (less-says 0 (twoAt b i))
+    where
+      only : Counted b i → 0 < twoAt b i
+      only (k, l, h) =
+          ⊎-elim (λ (p : 0 < twoAt b i). p)
+          (λ p.
+          ⊎-elim (λ m. absurd (omega (arith, h, four-none b i 0 d k (omega arith) m)))
+          (λ m.
+          ⊎-elim (λ q. absurd (omega (arith, h, four-none b i rightCount e k m q)))
+          (λ q. absurd (omega (arith, h, two-none (omega arith) k q))) (lt-or-le k markerX))
+          (lt-or-le k rightCount))
+          (lt-or-le 0 (twoAt b i))
 
--- The counts that a record may not have are those of the small letters, or none.
-pub small-allowed : (kind : Kind) (b : List ℕ) (i : ℕ) → smallAt b kind i ≡ 0 → Allowed b kind i
-unfolding mayHave
-small-allowed Membership b i e k n = after-none b i rightCount (omega arith) e k (ltb-false k rightCount n)
-small-allowed Permission b i e k n = count-out b i k (ltb-false k letterCount n)
-small-allowed Filter b i e k n = after-none b i rightCount (omega arith) e k (ltb-false k rightCount n)
+-- The counts that a record may not have are all zero where they are, joined.
+or-none : (m n : ℕ) → bitOr m n ≡ 0 → (m ≡ 0) × (n ≡ 0)
+or-none m n e = (omega (arith, or-add-and m n, and-le-r m n), omega (arith, or-add-and m n, and-le-l m n))
 
-pub allowed-small : (kind : Kind) (b : List ℕ) (i : ℕ) → Allowed b kind i → smallAt b kind i ≡ 0
-unfolding mayHave
-allowed-small Membership b i a = none-after b i rightCount (λ k l. a k (le-ltb k rightCount l))
-allowed-small Permission b i a = refl
-allowed-small Filter b i a = none-after b i rightCount (λ k l. a k (le-ltb k rightCount l))
+pub barred-allowed : (kind : Kind) (b : List ℕ) (i : ℕ) → barredAt b kind i ≡ 0 → Allowed b kind i
+barred-allowed kind b i e k n =
+    let p = or-none (smallAt b kind i) (markersAt b kind i) e in
+    ⊎-elim (λ h. not-both kind k n (capital kind k h))
+    (λ l.
+    ⊎-elim
+    (λ h. four-none b i rightCount (rw (sym (small-alike kind k l h) ∙ n) at (p .0)) k l h)
+    (λ m.
+    ⊎-elim (λ h. two-none b i (rw (sym (marker-alike kind k m h) ∙ n) at (p .1)) k m) (λ h. count-out b i k h)
+    (lt-or-le k letterCount))
+    (lt-or-le k markerX))
+    (lt-or-le k rightCount)
+
+pub allowed-barred : (kind : Kind) (b : List ℕ) (i : ℕ) → Allowed b kind i → barredAt b kind i ≡ 0
+allowed-barred kind b i a = rw (small (mayHave kind rightCount) refl, markers (mayHave kind markerX) refl)
+  where
+    small : (t : Bool) → mayHave kind rightCount ≡ t → cond t 0 (fourAt b i rightCount) ≡ 0
+    small true e = refl
+    small false e =
+        let z : (k : ℕ) → rightCount ≤ k → k < markerX → countAt b i k ≡ 0 = λ k l h. a k (small-alike kind k l h ∙ e) in
+        omega (arith, z 4 (omega arith) (omega arith), z 5 (omega arith) (omega arith), z 6 (omega arith) (omega arith), z 7 (omega arith) (omega arith))
+
+    markers : (t : Bool) → mayHave kind markerX ≡ t → cond t 0 (twoAt b i) ≡ 0
+    markers true e = refl
+    markers false e = omega (arith, a markerX e, a markerN (marker-alike kind markerN (omega arith) (omega arith) ∙ e))
 
 -- ---- a part, record by record
 
@@ -84,13 +117,13 @@ pub part-none : {b : List ℕ} {kind : Kind} {i : ℕ} (j : ℕ) → j ≤ i →
 part-none j l = record { each = λ n k h. absurd (omega arith); rising = λ n k h. absurd (omega arith) }
 
 -- The records numbered i to n - 1 pass as ones of the kind, but for their names and for the counts that they may not have:
--- all keys are joined in the high half of `names`, all ids in its low half, and all those counts in `small`.
-pub record Passed (b : List ℕ) (kind : Kind) (i n names small : ℕ) : Type 0 where
-  pub counts : (m : ℕ) → i ≤ m → m < n → Allowed b kind m → Counted b m
+-- all keys are joined in the high half of `names`, all ids in its low half, and all those counts in `barred`.
+pub record Passed (b : List ℕ) (kind : Kind) (i n names barred : ℕ) : Type 0 where
+  pub counts : (m : ℕ) → i ≤ m → m < n → Counted b m
   pub rising : (m : ℕ) → i ≤ m → m + 1 < n → Before b m (m + 1)
   pub keys : Seen 10 (key b) i n (names / 65536)
   pub ids : Seen 10 (id b) i n (names % 65536)
-  pub smalls : Seen 0 (smallAt b kind) i n small
+  pub allowed : Seen 0 (barredAt b kind) i n barred
 
 pub passed-none : (b : List ℕ) (kind : Kind) (i : ℕ) → Passed b kind i i 0 0
 passed-none b kind i =
@@ -99,16 +132,16 @@ passed-none b kind i =
       rising = λ m l h. absurd (omega arith);
       keys = seen-none 10 (key b) i;
       ids = seen-none 10 (id b) i;
-      smalls = seen-none 0 (smallAt b kind) i;
+      allowed = seen-none 0 (barredAt b kind) i;
     }
 
-pub passed-more : {b : List ℕ} {kind : Kind} {i n names small rank four : ℕ} → i ≤ n → Passed b kind i n names small
-    → (Allowed b kind n → Counted b n) → ((m : ℕ) → i ≤ m → m + 1 ≡ n → Before b m (m + 1))
-    → Pair (id b n) (key b n) rank → four ≡ smallAt b kind n
-    → Passed b kind i (n + 1) (bitOr names rank) (bitOr small four)
+pub passed-more : {b : List ℕ} {kind : Kind} {i n names barred rank own : ℕ} → i ≤ n → Passed b kind i n names barred
+    → Counted b n → ((m : ℕ) → i ≤ m → m + 1 ≡ n → Before b m (m + 1))
+    → Pair (id b n) (key b n) rank → own ≡ barredAt b kind n
+    → Passed b kind i (n + 1) (bitOr names rank) (bitOr barred own)
 passed-more {b} {kind} {i} {n} {names} {rank = rank} l p c step r f =
     record {
-      counts = from-more (λ m. Allowed b kind m → Counted b m) i n (p .counts) c;
+      counts = from-more (Counted b) i n (p .counts) c;
       rising =
           λ m k h. ⊎-elim (λ o. p .rising m k o) (λ o. step m k (omega arith)) (lt-or-le (m + 1) n);
       keys =
@@ -117,30 +150,29 @@ passed-more {b} {kind} {i} {n} {names} {rank = rank} l p c step r f =
       ids =
           let e : rank % 65536 ≡ id b n = omega arith in
           rw (or-mod names rank 16, e) (seen-more l (p .ids));
-      smalls = rw f (seen-more l (p .smalls));
+      allowed = rw f (seen-more l (p .allowed));
     }
 
-pub passed-part : {b : List ℕ} {kind : Kind} {i n names small : ℕ} (j : ℕ) → j ≤ n → Passed b kind i n names small
-    → small ≡ 0 → IsName (names / 65536) → IsName (names % 65536) → Part b kind i j
+pub passed-part : {b : List ℕ} {kind : Kind} {i n names barred : ℕ} (j : ℕ) → j ≤ n → Passed b kind i n names barred
+    → barred ≡ 0 → IsName (names / 65536) → IsName (names % 65536) → Part b kind i j
 passed-part {b} {kind} {n = n} j l p z x y =
     record {
       each =
           λ m k h.
           let h : m < n = omega arith in
-          let a = small-allowed kind b m (omega (arith, p .smalls .each-then (omega arith) m k h)) in
           record {
             key-below = p .keys .each-then x m k h;
             id-below = p .ids .each-then y m k h;
-            counted = p .counts m k h a;
-            allowed = a;
+            counted = p .counts m k h;
+            allowed = barred-allowed kind b m (omega (arith, p .allowed .each-then (omega arith) m k h));
           };
       rising = λ m k h. p .rising m k (omega arith);
     }
 
-pub part-passed : {b : List ℕ} {kind : Kind} {i j n names small : ℕ} → (i < n → n ≤ j) → Passed b kind i n names small
-    → Part b kind i j → (small ≡ 0) × IsName (names / 65536) × IsName (names % 65536)
+pub part-passed : {b : List ℕ} {kind : Kind} {i j n names barred : ℕ} → (i < n → n ≤ j) → Passed b kind i n names barred
+    → Part b kind i j → (barred ≡ 0) × IsName (names / 65536) × IsName (names % 65536)
 part-passed {b} {kind} {i} {j} {n} l p whole = (
-  omega (arith, p .smalls .only-then (λ m k h. omega (arith, allowed-small kind b m (whole .each m k (inside m k h) .allowed)))),
+  omega (arith, p .allowed .only-then (λ m k h. omega (arith, allowed-barred kind b m (whole .each m k (inside m k h) .allowed)))),
   p .keys .only-then (λ m k h. whole .each m k (inside m k h) .key-below),
   p .ids .only-then (λ m k h. whole .each m k (inside m k h) .id-below),
 )

@@ -1,16 +1,17 @@
 -- Which letters a record of a kind may have, and whether it may have all letters of a mask.
-use Prim.Native.Nat.{ℕ, zero, suc, _+_, _/_, _%_, _^_, _<_, _≤_}
+use Prim.Native.Nat.{ℕ, zero, suc, _+_, _-_, _/_, _%_, _^_, _<_, _≤_}
 use mathlib.Core.Path.{_≡_, refl, sym, ap, subst, _∙_}
 use mathlib.Core.Bool.{Bool, true, false, cond, _&&_}
 use mathlib.Core.Logic.{⊎-elim, _↔_}
 use native.Mathlib.Nat.{zero-div, div-eq-of-lt, div-one, div-div-eq-div-mul, pow-succ', pow-le-pow-right}
 use native.Mathlib.Omega.{arith}
-use borrow.Author.Tests.{ltb-true, le-ltb, lt-ltb, eqb-true, eqb-false, eq-eqb, ne-eqb}
+use borrow.Author.Tests.{ltb-true, le-ltb, eqb-true, eqb-false, eq-eqb, ne-eqb}
 use lib.Bits.{bitAnd}
 use lib.Dec.{eqb, ltb}
 use Rattle.index.specs.declared.Kind.{Kind}
 use Rattle.index.specs.declared.Kind.the-variants.{Membership, Permission, Filter}
-use Rattle.index.specs.Letters.{letterCount, rightCount, allRights, mayHave, In}
+use Rattle.index.specs.Letters.{letterCount, rightCount, allRights, markerX, markerN, mayHave, In}
+use Rattle.index.specs.Message.{markerMask}
 use Rattle.index.specs.work.Checks.{Says}
 use Rattle.index.specs.work.Edits.{Letters, bit}
 use Rattle.index.proofs.laws.Range.{lt-or-le}
@@ -19,25 +20,51 @@ use Rattle.index.proofs.laws.block.Masks.{and-bit, in-and, in-or-out}
 
 -- ---- a letter
 
--- Every kind may have the capital letters, and none may have one that there is not.
+-- What holds of the kinds and the letters is computed for each; no kind may have a letter that there is not.
+abbrev mayTest : (Kind → ℕ → Bool) → ℕ → ℕ → Bool
+mayTest P i n = all (P Membership) i n && (all (P Permission) i n && all (P Filter) i n)
+
+may-at : (P : Kind → ℕ → Bool) (i n : ℕ) → mayTest P i n ≡ true → (kind : Kind) (k : ℕ) → i ≤ k → k < i + n → P kind k ≡ true
+may-at P i n e kind k l h = all-at (P kind) i n (of kind) k l h
+  where
+    of : (kind : Kind) → all (P kind) i n ≡ true
+    of Membership = both (all (P Membership) i n) _ e .0
+    of Permission = both (all (P Permission) i n) (all (P Filter) i n) (both (all (P Membership) i n) _ e .1) .0
+    of Filter = both (all (P Permission) i n) (all (P Filter) i n) (both (all (P Membership) i n) _ e .1) .1
+
 pub capital : (kind : Kind) (k : ℕ) → k < rightCount → mayHave kind k ≡ true
 unfolding mayHave
-capital Membership k l = lt-ltb k rightCount l
-capital Permission k l = lt-ltb k letterCount (omega arith)
-capital Filter k l = lt-ltb k rightCount l
+capital kind k l = may-at mayHave 0 rightCount refl kind k (omega arith) l
 
 pub below : (kind : Kind) (k : ℕ) → mayHave kind k ≡ true → k < letterCount
 unfolding mayHave
-below Membership k e = omega (arith, ltb-true k rightCount e)
-below Permission k e = ltb-true k letterCount e
+below Membership k e =
+    ⊎-elim (λ (h : k < letterCount). h)
+    (λ h.
+    let n : false ≡ true = rw (le-ltb k rightCount (omega arith), ne-eqb k markerX (omega arith), ne-eqb k markerN (omega arith)) at e in
+    let y : _≡_ {A = ℕ} 0 1 = cc in
+    absurd (omega arith))
+    (lt-or-le k letterCount)
+below Permission k e = omega (arith, ltb-true k markerX e)
 below Filter k e = omega (arith, ltb-true k rightCount e)
 
--- The small letters go together: where a kind may not have the first of them, it may have no letter from there on.
-pub no-small : (kind : Kind) → mayHave kind rightCount ≡ false → (k : ℕ) → rightCount ≤ k → mayHave kind k ≡ false
+-- The small letters go together, and so do the markers: a kind may have all of them or none.
+abbrev alike : ℕ → Kind → ℕ → Bool
+alike first kind k = eqb (cond (mayHave kind k) 1 0) (cond (mayHave kind first) 1 0)
+
+same-test : (s t : Bool) → eqb (cond s 1 0) (cond t 1 0) ≡ true → s ≡ t
+same-test true true e = refl
+same-test true false e = let y : _≡_ {A = ℕ} 0 1 = cc in absurd (omega arith)
+same-test false true e = let y : _≡_ {A = ℕ} 0 1 = cc in absurd (omega arith)
+same-test false false e = refl
+
+pub small-alike : (kind : Kind) (k : ℕ) → rightCount ≤ k → k < markerX → mayHave kind k ≡ mayHave kind rightCount
 unfolding mayHave
-no-small Membership e k l = le-ltb k rightCount l
-no-small Permission e k l = let y : _≡_ {A = ℕ} 0 1 = cc in absurd (omega arith)
-no-small Filter e k l = le-ltb k rightCount l
+small-alike kind k l h = same-test _ _ (may-at (alike rightCount) rightCount rightCount refl kind k l h)
+
+pub marker-alike : (kind : Kind) (k : ℕ) → markerX ≤ k → k < letterCount → mayHave kind k ≡ mayHave kind markerX
+unfolding mayHave
+marker-alike kind k l h = same-test _ _ (may-at (alike markerX) markerX (letterCount - markerX) refl kind k l h)
 
 pub not-both : {P : Type 0} (kind : Kind) (k : ℕ) → mayHave kind k ≡ false → mayHave kind k ≡ true → P
 not-both kind k n y = let z : _≡_ {A = ℕ} 0 1 = cc in absurd (omega arith)
@@ -136,12 +163,16 @@ all-says kind r are mask = go (eqb (bitAnd mask r) mask) refl
 pub not-in : (kind : Kind) (mask : ℕ) → AllMay kind mask → (k : ℕ) → mayHave kind k ≡ false → bit mask k ≡ 0
 not-in kind mask all k n = ⊎-elim (λ h. not-both kind k n (all k (omega arith))) (λ h. omega arith) (lt-or-le 0 (bit mask k))
 
--- As a number: a kind that may not have the small letters, M or F, may have the letters of the masks up to 15, and of no mask "above 15".
-pub above-fifteen : (kind : Kind) (mask : ℕ) → mayHave kind rightCount ≡ false → AllMay kind mask ↔ (mask ≤ allRights)
-above-fifteen kind mask n = (
+-- As a number, of a mask without markers: a kind that may not have the small letters, M or F, may have the letters of the masks up to 15,
+-- and of no mask "above 15".
+pub above-fifteen : (kind : Kind) (mask : ℕ) → mask < markerMask → mayHave kind rightCount ≡ false → AllMay kind mask ↔ (mask ≤ allRights)
+above-fifteen kind mask s n = (
   λ all.
       ⊎-elim (λ h. omega arith)
-      (λ h. let (k, l, e) = high-letter rightCount mask h in not-both kind k (no-small kind n k l) (all k e))
+      (λ h.
+      let (k, l, e) = high-letter rightCount mask h in
+      ⊎-elim (λ m. not-both kind k (small-alike kind k l m ∙ n) (all k e))
+      (λ m. absurd (omega (arith, e, no-letter mask markerX k s m))) (lt-or-le k markerX))
       (lt-or-le mask (2 ^ rightCount)),
   λ l k e.
       ⊎-elim (λ h. capital kind k h) (λ h. absurd (omega (arith, e, no-letter mask rightCount k (omega arith) h)))

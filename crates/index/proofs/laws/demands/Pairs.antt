@@ -8,7 +8,7 @@ use mathlib.Core.List.{List, [], _∷_, _++_, map}
 use lib.Dec.{eqb}
 use Rattle.index.specs.declared.Kind.{Kind}
 use Rattle.index.specs.Numbers.{Each}
-use Rattle.index.specs.Message.{kindOf, kindNumber, Half, halfCount, kindIn, present, halfAt, halves, new, changes, Carried, moves}
+use Rattle.index.specs.Message.{kindOf, kindNumber, Half, halfCount, kindIn, present, halfAt, halves, new, changes, Carried, moves, maskWith}
 use Rattle.index.specs.Wide.{names, Rising, WideFormed, maskIn, pairs, wideHalves, widePrevious, wideNew, namesFrom}
 use Rattle.index.specs.Calls.{blockNeeds, wideNeeds, Wide}
 use Rattle.index.specs.History.{Sent, newOf, Outcome, movesOf}
@@ -111,4 +111,4 @@ counts-once b (plain m) b′ h = plain-once m
 counts-once b (wide m) b′ h =
     let p = first-passed (λ n. (n, b)) (Carried b (changes (widePrevious m) (wideNew m)) b) (0, b′) (λ o. o .0) (λ n. refl) (wideNeeds b m) (omega arith) refl h in
     let r = half-rising m 1 (omega arith) (p .0 .1 .1 .0) in
-    λ kind x y k. pairs-once (kindOf (kindIn m)) (maskIn m 1) kind x y k (names m 2) (names m 3) (r .0) (r .1)
+    λ kind x y k. pairs-once (kindOf (kindIn m)) (maskWith m 1 (maskIn m 1)) kind x y k (names m 2) (names m 3) (r .0) (r .1)

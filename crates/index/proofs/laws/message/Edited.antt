@@ -92,7 +92,7 @@ module _ (h : Half) {b b′ : List ℕ} {j : ℕ} (g : Good b) (bytes : (t : ℕ
   unfolding Masked
   inserted-is r gap s w =
       let masked = r .masked in
-      let (k₀, in₀) = some-letter (h .mask) (masked .0) in
+      let (k₀, in₀) = some-letter (h .mask) (omega (arith, masked .0)) in
       let l₀ = below (h .kind) k₀ (masked .1 k₀ in₀) in
       let new : Record b′ (h .kind) j =
       record {

@@ -1,4 +1,4 @@
--- "For one statement this equals 000's formula.": computed over all 256 masks, 135 and 79 among them.
+-- "For one statement this equals 000's formula.": computed over all 1,024 masks, those with markers too, 135 and 79 among them.
 use Prim.Native.Nat.{ℕ, _+_, _-_, _/_, _%_, _^_, _<_}
 use mathlib.Core.Path.{_≡_, refl}
 use mathlib.Core.Bool.{Bool, true, _&&_}

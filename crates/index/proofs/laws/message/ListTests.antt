@@ -5,7 +5,7 @@ use mathlib.Core.List.{List, [], _∷_, _++_}
 use native.Mathlib.Omega.{arith}
 use Rattle.index.specs.Block.{Sized}
 use Rattle.index.specs.Numbers.{Answers, Each}
-use Rattle.index.specs.Message.{IsKind, Named, Masked, packedKind, packedHalf}
+use Rattle.index.specs.Message.{Named, Masked, packedHalf, PackedWell}
 use Rattle.index.specs.Calls.{blockNeeds, listNeeds}
 use Rattle.index.specs.work.Edits.{Prepared}
 use Rattle.index.proofs.laws.Firsts.{All, passed}
@@ -14,7 +14,7 @@ use Rattle.index.proofs.laws.message.Packing.{each-at}
 -- Those of the list by itself.
 abbrev pub ownNeeds : List ℕ → List (ℕ × Type 0)
 ownNeeds cs =
-    (3, Each (λ n. IsKind (packedKind n)) cs) ∷ (4, Each (λ n. Named (packedHalf n)) cs) ∷ (5, Each (λ n. Masked (packedHalf n)) cs) ∷ []
+    (3, Each PackedWell cs) ∷ (4, Each (λ n. Named (packedHalf n)) cs) ∷ (5, Each (λ n. Masked (packedHalf n)) cs) ∷ []
 
 module _ (b cs : List ℕ) {r : ℕ} (e : r ≡ 0) (a : Answers (listNeeds b cs) r) where
   pub list-passed : All (listNeeds b cs)

@@ -8,9 +8,10 @@ use native.Mathlib.Omega.{arith}
 use borrow.Author.Tests.{eqb-true, ltb-true, leb-true}
 use lib.Dec.{eqb, ltb, leb}
 use lib.ListN.{length, getD}
+use Rattle.index.specs.declared.Kind.the-variants.{Membership}
 use Rattle.index.specs.Letters.{letterCount, mayHave}
 use Rattle.index.specs.Block.{greatestCount, nameCount, headerLength, greatestLength, Sized, Good, records, room}
-use Rattle.index.specs.Message.{IsKind, Half, messageLength, halfLength, halfPlace, kindIn, flags, present, Blank, WellFormed, Named, Masked, Change, changes, ownCount, changeNeeds, Changed, Carried, previous, new}
+use Rattle.index.specs.Message.{IsKind, kindOf, Half, messageLength, halfLength, halfPlace, kindIn, flags, present, markers, markerMask, Marked, Begun, Blank, WellFormed, Named, Masked, Change, changes, ownCount, changeNeeds, Changed, Carried, previous, new}
 use Rattle.index.specs.Message.Change.{take, add}
 use Rattle.index.specs.Numbers.{Each}
 use Rattle.index.specs.Calls.{Message, messageNeeds, blockNeeds}
@@ -18,7 +19,7 @@ use Rattle.index.specs.work.Edits.{bit}
 use Rattle.index.proofs.laws.Tests.{both, all, all-at, some, some-at}
 use Rattle.index.proofs.laws.block.MayHave.{AllMay, all-may}
 use Rattle.index.proofs.laws.block.GoodTest.{goodTest, good-test}
-use Rattle.index.proofs.laws.message.Halves.{each-half}
+use Rattle.index.proofs.laws.message.Halves.{each-half, kind-one}
 use Rattle.index.proofs.laws.message.ChangeTest.{changeTest, change-test}
 
 -- ---- what a change needs
@@ -83,25 +84,51 @@ blank-test : (m : List ℕ) (h : ℕ) → blankTest m h ≡ true → present m h
 unfolding Blank
 blank-test m h e f j l = eqb-true _ _ (all-at (λ j. eqb (getD m (halfPlace h + j) 0) 0) 0 halfLength (rw f at e) j (omega arith) l)
 
-abbrev formTest : List ℕ → Bool
-formTest m =
-    eqb (length m) messageLength
-    && (leb 1 (kindIn m)
-    && (leb (kindIn m) 3 && (leb 1 (flags m) && (leb (flags m) 3 && (blankTest m 0 && blankTest m 1)))))
+abbrev markedTest : List ℕ → ℕ → Bool
+markedTest m h = cond (eqb (markers m h) 0) true (ltb (markers m h) 3 && (eqb (kindIn m) 1 && present m h))
 
-form-test : (m : List ℕ) → formTest m ≡ true → WellFormed m
+marked-test : (m : List ℕ) (h : ℕ) → markedTest m h ≡ true → Marked (markers m h) (kindOf (kindIn m)) (present m h)
+unfolding Marked
+marked-test m h e = go (eqb (markers m h) 0) refl e
+  where
+    go : (t : Bool) → eqb (markers m h) 0 ≡ t → cond t true (ltb (markers m h) 3 && (eqb (kindIn m) 1 && present m h)) ≡ true
+        → (markers m h ≡ 0) ⊎ ((markers m h < 3) × (kindOf (kindIn m) ≡ Membership) × (present m h ≡ true))
+    go true q e = inl (eqb-true _ _ q)
+    go false q e =
+        let p = both (ltb (markers m h) 3) _ e in
+        let r = both (eqb (kindIn m) 1) _ (p .1) in
+        inr (ltb-true _ _ (p .0), kind-one (kindIn m) .1 (eqb-true _ _ (r .0)), r .1)
+
+abbrev begunTest : List ℕ → Bool
+begunTest m =
+    leb 1 (kindIn m)
+    && (leb (kindIn m) 3 && (leb 1 (flags m) && (leb (flags m) 3 && (markedTest m 0 && markedTest m 1))))
+
+begun-test : (m : List ℕ) → begunTest m ≡ true → Begun m
 unfolding IsKind
-form-test m e =
-    let p = both (eqb (length m) messageLength) _ e in
-    let q = both (leb 1 (kindIn m)) _ (p .1) in
+begun-test m e =
+    let q = both (leb 1 (kindIn m)) _ e in
     let r = both (leb (kindIn m) 3) _ (q .1) in
     let s = both (leb 1 (flags m)) _ (r .1) in
     let t = both (leb (flags m) 3) _ (s .1) in
-    let u = both (blankTest m 0) (blankTest m 1) (t .1) in
+    let u = both (markedTest m 0) (markedTest m 1) (t .1) in
     record {
-      twelve = eqb-true _ _ (p .0);
       kind = (leb-true _ _ (q .0), leb-true _ _ (r .0));
       some-half = (leb-true _ _ (s .0), leb-true _ _ (t .0));
+      marked = each-half (λ h. Marked (markers m h) (kindOf (kindIn m)) (present m h)) (marked-test m 0 (u .0)) (marked-test m 1 (u .1));
+    }
+
+abbrev formTest : List ℕ → Bool
+formTest m = eqb (length m) messageLength && (begunTest m && (blankTest m 0 && blankTest m 1))
+
+form-test : (m : List ℕ) → formTest m ≡ true → WellFormed m
+form-test m e =
+    let p = both (eqb (length m) messageLength) _ e in
+    let q = both (begunTest m) _ (p .1) in
+    let u = both (blankTest m 0) (blankTest m 1) (q .1) in
+    record {
+      twelve = eqb-true _ _ (p .0);
+      begun = begun-test m (q .0);
       absent = each-half (λ h. present m h ≡ false → Blank m h) (blank-test m 0 (u .0)) (blank-test m 1 (u .1));
     }
 
@@ -119,7 +146,7 @@ abbrev halvesTest : List Half → Bool
 halvesTest [] = true
 halvesTest (h ∷ hs) =
     ltb (h .key) nameCount
-    && (ltb (h .id) nameCount && (ltb 0 (h .mask) && (maskTest h && halvesTest hs)))
+    && (ltb (h .id) nameCount && (ltb 0 (h .mask % markerMask) && (maskTest h && halvesTest hs)))
 
 halves-test : (hs : List Half) → halvesTest hs ≡ true → Each Named hs × Each Masked hs
 unfolding Named Masked
@@ -127,7 +154,7 @@ halves-test [] e = (tt, tt)
 halves-test (h ∷ hs) e =
     let p = both (ltb (h .key) nameCount) _ e in
     let q = both (ltb (h .id) nameCount) _ (p .1) in
-    let r = both (ltb 0 (h .mask)) _ (q .1) in
+    let r = both (ltb 0 (h .mask % markerMask)) _ (q .1) in
     let s = both (maskTest h) (halvesTest hs) (r .1) in
     let w = halves-test hs (s .1) in
     (((ltb-true _ _ (p .0), ltb-true _ _ (q .0)), w .0), ((ltb-true _ _ (r .0), mask-test h (s .0)), w .1))

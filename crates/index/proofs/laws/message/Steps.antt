@@ -89,7 +89,7 @@ module _ (h : Half) {b : List ℕ} {j : ℕ} (gap : Gap b (h .kind) (h .key) (h 
   pub take-missing : Masked h → Step (take h) b 6 b
   unfolding changeNeeds Masked
   take-missing m =
-      let (k, e) = some-letter (h .mask) (m .0) in
+      let (k, e) = some-letter (h .mask) (omega (arith, m .0)) in
       record {
         outcome = inl (λ need. omega (arith, need k (below (h .kind) k (m .1 k e)) e, stands-not k), refl);
         freed = λ e. absurd (omega arith);

@@ -1,17 +1,11 @@
 -- Four counts as one number are two pairs of numbers.
-use Prim.Native.Nat.{ℕ, _+_, _*_, _<_}
-use mathlib.Core.Path.{_≡_, ap, _∙_}
-use mathlib.Core.List.{List}
+use Prim.Native.Nat.{_+_, _*_}
 use native.Mathlib.Omega.{arith}
 use borrow.Author.Needs.{needs}
-use Rattle.index.specs.Letters.{letterCount}
-use Rattle.index.specs.Block.{number, place, countAt}
-use Rattle.index.proofs.laws.block.Bytes.{count-number}
+use Rattle.index.specs.Block.{place}
+use Rattle.index.proofs.laws.block.Bytes.{count-in}
 use Rattle.index.proofs.block.checks.four_at.Statement.{statement}
 use Rattle.index.proofs.block.checks.four_at.Tie as tie
-
-count-in : (b : List ℕ) (i k p : ℕ) → k < letterCount → place i + 4 + 2 * k ≡ p → countAt b i k ≡ number b p
-count-in b i k p h e = count-number b i k h ∙ ap (number b) e
 
 returns : tie.Need-returns
 returns c =

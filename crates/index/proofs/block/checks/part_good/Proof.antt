@@ -15,15 +15,15 @@ use Rattle.index.proofs.block.checks.part_good.Statement.{statement}
 use Rattle.index.proofs.block.checks.part_good.Tie as tie
 
 abbrev Inv-loop : tie.InvT-loop
-Inv-loop b kind i j n₀ least₀ names₀ small₀ n least names small =
+Inv-loop b kind i j n₀ least₀ names₀ barred₀ n least names barred =
     (i ≤ n)
     × (i < n → n ≤ j)
-    × Passed b kind i n names small
+    × Passed b kind i n names barred
     × (i ≡ n → least ≡ 0)
     × ((m : ℕ) → i ≤ m → m + 1 ≡ n → least ≡ 65536 * key b m + id b m + 1)
 
 abbrev μ-loop : tie.MeasureT-loop
-μ-loop b kind i j n₀ least₀ names₀ small₀ n least names small = j - n
+μ-loop b kind i j n₀ least₀ names₀ barred₀ n least names barred = j - n
 
 loop-holds : tie.Need-loop-holds Inv-loop μ-loop
 loop-holds c =
@@ -46,7 +46,7 @@ returns-2 : tie.Need-returns-2 Inv-loop μ-loop
 returns-2 c =
     λ p.
     let r = p .each (c .before .before .before .before .before .loop .n) (search needs) (search needs) in
-    no-not (c .before .has-count .result) (c .if2 .taken) (r .counted) (c .before .has-count .ensures (r .allowed))
+    no-not (c .before .has-count .result) (c .if2 .taken) (r .counted) (c .before .has-count .ensures)
 
 loop-again : tie.Need-loop-again Inv-loop μ-loop
 loop-again c =
@@ -55,10 +55,10 @@ loop-again c =
     let inv = c .before .before .before .before .before .before .loop .inv in (
       search needs,
       λ l. search needs,
-      passed-more (inv .0) (inv .2) (λ a. yes-not (has-count .result) (c .before .if2 .left) (has-count .ensures a))
+      passed-more (inv .0) (inv .2) (yes-not (has-count .result) (c .before .if2 .left) (has-count .ensures))
           (λ m l e.
           spot-before {w = 65536} _ m (m + 1) (rw e (rank-at .ensures .low-small)) (rw e (omega (arith, inv .4 m l e))))
-          (rank-at .ensures) (c .small-at .ensures),
+          (rank-at .ensures) (c .barred-at .ensures),
       λ e. absurd (omega arith),
       λ m l e. let q : m ≡ c .before .before .before .before .before .before .loop .n = omega arith in rw q (omega arith),
     )

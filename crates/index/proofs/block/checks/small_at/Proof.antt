@@ -1,4 +1,4 @@
--- The counts that a record may not have are those of the small letters, or none.
+-- The counts of the small letters, or none.
 use mathlib.Core.Path.{sym, _∙_}
 use borrow.Author.Needs.{needs}
 use Rattle.index.proofs.block.checks.small_at.Statement.{statement}

@@ -26,7 +26,7 @@ the-previous : (c : tie.Else2) → present (c .before .before .before .before .b
 the-previous c = sym (c .before .is-present2 .ensures) ∙ not-false _ (c .if2 .left)
 
 alone : (c : tie.Then1) → present (c .before .before .before .before .args .m .now) 0 ≡ true
-alone c = let s = c .before .before .before .before in previous-alone (s .args .m .now) (s .pre .formed .some-half) (no-new c)
+alone c = let s = c .before .before .before .before in previous-alone (s .args .m .now) (s .pre .formed .begun .some-half) (no-new c)
 
 take-away-requires : tie.Need-take-away-requires
 take-away-requires c κs =

@@ -14,36 +14,36 @@ use Rattle.index.proofs.text.entries.counts.Statement.{statement}
 use Rattle.index.proofs.text.entries.counts.Tie as tie
 
 abbrev Inv-loop : tie.InvT-loop
-Inv-loop text out₀ bytes here₀ k₀ out here k =
+Inv-loop text bytes out₀ here₀ k₀ out here k =
     (k ≤ letterCount) × (length out ≡ letterCount)
     × ((K : Kind) → BytesOf K bytes
     → readCounts K 0 letters (drop (here₀ .at) text) ≡ after out k (readCounts K k (drop k letters) (drop (here .at) text)))
 
 abbrev μ-loop : tie.MeasureT-loop
-μ-loop text out₀ bytes here₀ k₀ out here k = letterCount - k
+μ-loop text bytes out₀ here₀ k₀ out here k = letterCount - k
 
 loop-holds : tie.Need-loop-holds Inv-loop μ-loop
 loop-holds c =
-    let s = c .before .before in
-    (omega arith, s .pre, λ K are. after-none (now (s .args .out)) (readCounts K 0 letters (drop (s .args .c .at) (now (s .args .text)))))
+    let s = c .before in
+    (omega arith, s .pre .0, λ K are. after-none (now (s .args .out)) (readCounts K 0 letters (drop (s .args .c .at) (now (s .args .text)))))
 
-array-read-counted : tie.Need-array-read-counted Inv-loop μ-loop
-array-read-counted c = omega (arith, c .loop-test .taken, c .before .before .letter-bytes .ensures .0)
+element-copy-out-counted : tie.Need-element-copy-out-counted Inv-loop μ-loop
+element-copy-out-counted c = omega (arith, c .loop-test .taken, c .before .before .before .pre .1 .0)
 
 returns : tie.Need-returns Inv-loop μ-loop
 returns c =
     let a = c .before .before .before .before .before .before .args in
-    let are = c .before .before .before .before .letter-bytes .ensures .1 in
-    let l = c .before .before .before .loop in
-    let h = c .before .before .loop-test .taken in
+    let are = c .before .before .before .before .before .before .pre .1 .1 in
+    let l = c .before .before .before .before .loop in
+    let h = c .before .before .before .loop-test .taken in
     let w = no-number (now (a .text)) (c .before .counted .result) _ (c .match .keys2) (c .before .counted .ensures (mayHave (a .kind) (l .k)) (getD letters (l .k) 0) (are (l .k) h)) in
     (l .inv .1, rw (w .1) (l .inv .2 (a .kind) are ∙ after-wrong (l .out) _ (l .k) h _ _ (w .2)))
 
 loop-again : tie.Need-loop-again Inv-loop μ-loop
 loop-again c =
     let a = c .before .before .before .before .before .before .before .before .args in
-    let l = c .before .before .before .before .before .loop in
-    let h = c .before .before .before .before .loop-test .taken in (
+    let l = c .before .before .before .before .before .before .loop in
+    let h = c .before .before .before .before .before .loop-test .taken in (
       omega arith,
       simp length-set (l .inv .1),
       λ K are.
@@ -53,9 +53,10 @@ loop-again c =
 
 returns-2 : tie.Need-returns-2 Inv-loop μ-loop
 returns-2 c =
-    let a = c .before .before .before .before .args in
+    let s = c .before .before .before in
+    let a = s .args in
     let l = c .before .loop in
-    (l .inv .1, l .inv .2 (a .kind) (c .before .before .letter-bytes .ensures .1) ∙ after-all (l .out) _ (l .k) _ (l .inv .1) (omega arith))
+    (l .inv .1, l .inv .2 (a .kind) (s .pre .1 .1) ∙ after-all (l .out) _ (l .k) _ (l .inv .1) (omega arith))
 
 pub counts-spec : {M : Type 1} → statement M
 counts-spec =
@@ -63,10 +64,9 @@ counts-spec =
     (tie.spec
     Inv-loop
     μ-loop
-    (λ c κs. search needs)
     loop-holds
     (λ c. search needs)
-    array-read-counted
+    element-copy-out-counted
     (λ c κs. search needs)
     (λ c. search needs)
     returns

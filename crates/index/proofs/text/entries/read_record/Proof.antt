@@ -48,7 +48,7 @@ abbrev after-sign : tie.After-pieces → tie.After-sign
 after-sign c = c .before .before .before .before .before
 
 abbrev counts : tie.After-pieces → List ℕ
-counts c = c .before .before .counts .last .1 .1 .1 .0
+counts c = c .before .before .counts .last .1 .1 .1 .1 .0
 
 -- What comes of the counts: a record, if one is above zero.
 abbrev entry : ℕ → List ℕ → List ℕ → Parsed Entry
@@ -67,13 +67,13 @@ unfolding readRecord
 returns c =
     let s = c .before .before .before in
     let n = c .before .number in
-    (s .pre .0, wrong-entry (text s) (now (s .args .out)) (n .result) _ (no-number (text s) (n .result) _ (c .match .keys2) (n .ensures)))
+    (s .pre .0 .0, wrong-entry (text s) (now (s .args .out)) (n .result) _ (no-number (text s) (n .result) _ (c .match .keys2) (n .ensures)))
 
 returns-2 : tie.Need-returns-2
 returns-2 c =
     let s = c .before .before .before .before .before .before .before in
     let m = c .before .mark in (
-      s .pre .0,
+      s .pre .0 .0,
       rw (id-read (c .before .before .before))
           (wrong-entry (text s) (now (s .args .out)) (m .result) _ (no-mark (text s) (m .result) _ (c .match2 .keys2) (m .ensures))),
     )
@@ -82,7 +82,7 @@ returns-3 : tie.Need-returns-3
 returns-3 c =
     let s = c .before .before .before .before .before .before .before .before .before .before .before .before in
     let k = c .before .counts in
-    let o : List ℕ = k .last .1 .1 .1 .0 in (
+    let o : List ℕ = k .last .1 .1 .1 .1 .0 in (
       k .ensures .0,
       rw (mark-read (c .before .before .before .before))
           (wrong-entry (text s) o (k .result) _ (no-letters (text s) o (k .result) _ (c .match3 .keys2) (k .ensures .1))),

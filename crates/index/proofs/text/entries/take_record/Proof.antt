@@ -27,7 +27,7 @@ returns : tie.Need-returns
 returns c =
     let s = c .before .before .before .before in
     let m = c .before .mark in (
-      s .pre,
+      s .pre .0,
       λ e es h q.
           absurd (not-got (sym (no-mark (now (s .args .text)) (m .result) _ (c .match .keys2) (m .ensures) .2) ∙ known (c .before) e es h q)),
     )

@@ -23,10 +23,10 @@ use Rattle.index.proofs.text.scanning.scan_text.Statement.{statement}
 use Rattle.index.proofs.text.scanning.scan_text.Tie as tie
 
 abbrev Inv-loop : tie.InvT-loop
-Inv-loop text kind out₀ here₀ least₀ n₀ out here least n = (length out ≡ letterCount) × Turn text kind (here .at) least n
+Inv-loop text kind bytes out₀ here₀ least₀ n₀ out here least n = (length out ≡ letterCount) × Turn text kind (here .at) least n
 
 abbrev μ-loop : tie.MeasureT-loop
-μ-loop text kind out₀ here₀ least₀ n₀ out here least n = length text - here .at
+μ-loop text kind bytes out₀ here₀ least₀ n₀ out here least n = length text - here .at
 
 -- A wrong piece, whose place is the text's.
 refused-so : (kind : Kind) (text : List ℕ) (p : Piece) (c : Cursor) (r : Took) → p ≡ Wrong c → r ≡ NoSet (length text - length (drop (placeIn p) text))
@@ -37,16 +37,16 @@ refused-so kind text p c r e h none =
 -- ---- a record was read
 
 abbrev start : tie.After-entry Inv-loop μ-loop → tie.Start Inv-loop μ-loop
-start c = c .before .before .before .before .before .before .before
+start c = c .before .before .before .before .before .before .before .before .before
 
 abbrev at-loop : tie.After-entry Inv-loop μ-loop → tie.At-loop Inv-loop μ-loop
-at-loop c = c .before .before .before .before
+at-loop c = c .before .before .before .before .before
 
 abbrev text : tie.After-entry Inv-loop μ-loop → List ℕ
 text c = now (start c .args .text)
 
 abbrev entry : tie.After-entry Inv-loop μ-loop → Entry
-entry c = record { id = c .entry .given .0 .0; counts = c .before .before .read-record .last .1 .1 .1 .1 .0 }
+entry c = record { id = c .entry .given .0 .0; counts = c .before .before .read-record .last .1 .1 .1 .1 .1 .0 }
 
 abbrev next-at : tie.After-entry Inv-loop μ-loop → ℕ
 next-at c = c .entry .given .0 .1 .0 .at
@@ -77,15 +77,15 @@ returns c = no-text (now (c .before .before .args .text)) (c .before .before .ar
 
 loop-holds : tie.Need-loop-holds Inv-loop μ-loop
 loop-holds c =
-    let h = c .if1 .left in (refl, turn-first (now (c .before .before .args .text)) (c .before .before .args .kind) (omega arith))
+    let h = c .before .if1 .left in (refl, turn-first (now (c .before .before .before .args .text)) (c .before .before .before .args .kind) (omega arith))
 
 read-record-requires : tie.Need-read-record-requires Inv-loop μ-loop
-read-record-requires c κs = (c .before .loop .inv .0, c .before .loop .inv .1 .small)
+read-record-requires c κs = ((c .before .before .loop .inv .0, c .before .before .loop .inv .1 .small), c .before .before .before .letter-bytes .ensures)
 
 returns-2 : tie.Need-returns-2 Inv-loop μ-loop
 returns-2 c =
-    let a = c .before .before .before .before .before .before .before .args in
-    let l = c .before .before .before .before .loop in
+    let a = c .before .before .before .before .before .before .before .before .before .args in
+    let l = c .before .before .before .before .before .loop in
     let t : List ℕ = now (a .text) in
     let r = c .before .before .read-record in
     let w = no-entry t _ (r .result) _ (c .before .match .keys2) (r .ensures .1) in
@@ -94,7 +94,7 @@ returns-2 c =
 add-n : tie.Need-add-n Inv-loop μ-loop
 add-n c =
     let k = c .before in
-    let l = c .before .before .before .before .before .loop in
+    let l = c .before .before .before .before .before .before .loop in
     omega (
       arith,
       l .inv .1 .room,
@@ -104,13 +104,13 @@ add-n c =
 returns-3 : tie.Need-returns-3 Inv-loop μ-loop
 returns-3 c =
     let k = c .before .before in
-    let l = c .before .before .before .before .before .before .loop in
+    let l = c .before .before .before .before .before .before .before .loop in
     turn-last (text k) (start k .args .kind) (l .here .at) (l .least) (l .n) (l .inv .1) (entry k) (next-at k) (was-read k) (c .if2 .taken)
 
 returns-4 : tie.Need-returns-4 Inv-loop μ-loop
 returns-4 c =
     let k = c .before .before .before in
-    let l = c .before .before .before .before .before .before .before .loop in
+    let l = c .before .before .before .before .before .before .before .before .loop in
     turn-full (text k) (start k .args .kind) (l .here .at) (l .least) (l .n) (l .inv .1) (entry k) (next-at k) (was-read k) (c .before .if2 .left) (c .if3 .taken)
 
 returns-5 : tie.Need-returns-5 Inv-loop μ-loop
@@ -137,6 +137,7 @@ scan-text-spec =
     Inv-loop
     μ-loop
     returns
+    (λ c κs. search needs)
     loop-holds
     read-record-requires
     (λ c. search needs)

@@ -7,7 +7,7 @@ use native.Mathlib.Omega.{arith}
 use borrow.Author.Needs.{needs}
 use borrow.Author.Tests.{not-true, not-false, leb-true, leb-false}
 use lib.ListN.{length}
-use Rattle.index.specs.Block.{greatestLength, place, Sized}
+use Rattle.index.specs.Block.{greatestLength, place, Sized, records, Good}
 use Rattle.index.specs.Message.{kindOf}
 use Rattle.index.specs.Text.{textOf, setOf}
 use Rattle.index.specs.Calls.{setNeeds}
@@ -29,7 +29,7 @@ all c = set-held _ _ _ _ (c .if1 .left) (c .before .set-refused .ensures)
 ready : (c : tie.Else1) → Held (now (start c .args .block)) (start c .args .kind) (start c .args .key)
 ready c = held _ _ _ (all c)
 
--- The records between the bounds are the set, and they lie in the block.
+-- The records between the bounds are the set.
 abbrev passed : tie.After-end-of → tie.Else1
 passed c = c .before .before .before
 
@@ -44,13 +44,18 @@ the-set c =
     rw (← c .before .before .kind-of .ensures)
     (ap textOf (set-range (ready (passed c) .good) _ _ _ _ (c .before .place-of .ensures) (c .end-of .ensures)))
 
-inside : (c : tie.After-end-of)
-    → (c .before .place-of .result ≤ c .end-of .result) × (place (c .end-of .result) ≤ length (block c)) × (length (block c) ≤ greatestLength)
+-- They are records of the block.
+known : (c : tie.After-end-of)
+    → (c .before .place-of .result ≤ c .end-of .result) × (c .end-of .result ≤ records (block c)) × (length (block c) ≤ greatestLength) × Good (block c)
 unfolding Sized
-inside c =
+known c =
     let g = ready (passed c) .good in
     let h = gap-in (c .before .before .kind-of .result) (block c) (c .end-of .result) (c .end-of .ensures .high) in
-    (bounds g _ _ _ _ (c .before .place-of .ensures) (c .end-of .ensures), omega (arith, g .fits), ready (passed c) .sized .1)
+    (bounds g _ _ _ _ (c .before .place-of .ensures) (c .end-of .ensures), h, ready (passed c) .sized .1, g)
+
+inside : (c : tie.After-end-of)
+    → (c .before .place-of .result ≤ c .end-of .result) × (place (c .end-of .result) ≤ length (block c)) × (length (block c) ≤ greatestLength)
+inside c = let k = known c in (k .0, omega (arith, k .1, k .3 .fits), k .2)
 
 returns : tie.Need-returns
 returns c = wrote-refused _ _ _ _ _ (c .if1 .taken) (c .before .set-refused .ensures)
@@ -79,7 +84,7 @@ write-set-spec =
     (λ c. omega (arith, ready (c .before) .named))
     (λ c κs. ready (c .before) .good)
     (λ c κs. (ready (c .before .before) .good, c .place-of .ensures))
-    (λ c κs. inside c)
+    (λ c κs. known c)
     returns-2
     (λ c κs. inside (c .before .before .before))
     (λ c. search needs)

@@ -14,17 +14,17 @@ use Rattle.index.proofs.text.taking.fill.Statement.{statement}
 use Rattle.index.proofs.text.taking.fill.Tie as tie
 
 abbrev Inv-loop : tie.InvT-loop
-Inv-loop b₀ first text kind key n counts₀ here₀ i₀ b counts here i =
+Inv-loop b₀ first text kind key n bytes counts₀ here₀ i₀ b counts here i =
     (i ≤ n)
     × (length counts ≡ letterCount)
     × (length b ≡ length b₀)
     × ((es : List Entry) → Writes kind es text → Taking key first text kind b₀ b (here .at) i es)
 
 abbrev μ-loop : tie.MeasureT-loop
-μ-loop b₀ first text kind key n counts₀ here₀ i₀ b counts here i = n - i
+μ-loop b₀ first text kind key n bytes counts₀ here₀ i₀ b counts here i = n - i
 
 abbrev start : tie.In-loop Inv-loop μ-loop → tie.Start Inv-loop μ-loop
-start c = c .before .before .before .before
+start c = c .before .before .before .before .before
 
 -- In the loop there is a record left.
 one-left : (c : tie.In-loop Inv-loop μ-loop) (es : List Entry) → Writes (start c .args .kind) es (now (start c .args .text))
@@ -34,10 +34,10 @@ one-left c es w =
 
 -- What was read.
 abbrev in-loop : tie.After-name Inv-loop μ-loop → tie.In-loop Inv-loop μ-loop
-in-loop c = c .before .before .before .before
+in-loop c = c .before .before .before .before .before
 
 is-entry : (c : tie.After-name Inv-loop μ-loop)
-    → IsEntry (start (in-loop c) .args .kind) (record { id = c .name .given .0 .0; counts = c .before .before .take-record .last .1 .1 .1 .1 .0 })
+    → IsEntry (start (in-loop c) .args .kind) (record { id = c .name .given .0 .0; counts = c .before .before .take-record .last .1 .1 .1 .1 .1 .0 })
 is-entry c =
     let (es, w, _) = start (in-loop c) .pre .1 in
     let r = c .before .before .take-record in
@@ -50,21 +50,21 @@ returns : tie.Need-returns Inv-loop μ-loop
 returns c es w =
     let r = c .before .take-record in
     absurd
-    (never-wrong (c .before .before .before .before .loop .inv .3 es w) (one-left (c .before .before .before) es w) (r .result) _ (r .ensures .1) (c .match .keys2))
+    (never-wrong (c .before .before .before .before .before .loop .inv .3 es w) (one-left (c .before .before .before .before) es w) (r .result) _ (r .ensures .1) (c .match .keys2))
 
 put-entry-requires : tie.Need-put-entry-requires Inv-loop μ-loop
 put-entry-requires c κs =
     let e = is-entry (c .before .before .before) in (
-      (c .before .before .before .before .before .before .before .before .before .before .before .pre .0 .0, omega (arith, e .named), omega (arith, c .before .before .before .before .before .before .before .loop-test .taken, c .before .before .before .before .before .before .before .before .before .before .before .pre .0 .1, c .before .before .before .before .before .before .before .before .loop .inv .2)),
+      (c .before .before .before .before .before .before .before .before .before .before .before .before .before .pre .0 .0, omega (arith, e .named), omega (arith, c .before .before .before .before .before .before .before .before .loop-test .taken, c .before .before .before .before .before .before .before .before .before .before .before .before .before .pre .0 .1, c .before .before .before .before .before .before .before .before .before .loop .inv .2)),
       (c .before .before .before .before .before .take-record .ensures .0, e .fits),
     )
 
 loop-again : tie.Need-loop-again Inv-loop μ-loop
 loop-again c =
     let k = c .before .before .before .before .before .before in (
-      omega (arith, c .before .before .before .before .before .before .before .before .before .before .loop-test .taken),
+      omega (arith, c .before .before .before .before .before .before .before .before .before .before .before .loop-test .taken),
       c .before .before .before .before .before .before .before .before .take-record .ensures .0,
-      c .before .before .put-entry .kept .0 ∙ c .before .before .before .before .before .before .before .before .before .before .before .loop .inv .2,
+      c .before .before .put-entry .kept .0 ∙ c .before .before .before .before .before .before .before .before .before .before .before .before .loop .inv .2,
       λ es w.
           let r = k .before .before .take-record in
           taking-next (in-loop k .before .loop .inv .3 es w) (one-left (in-loop k) es w) (r .result) _ (r .ensures .1) (k .name .given .1) (c .before .before .put-entry .ensures),
@@ -79,12 +79,13 @@ fill-spec =
     (tie.spec
     Inv-loop
     μ-loop
+    (λ c κs. search needs)
     loop-holds
-    (λ c κs. c .before .before .loop .inv .1)
+    (λ c κs. (c .before .before .before .loop .inv .1, c .before .before .before .before .letter-bytes .ensures))
     (λ c. search needs)
-    (λ c. c .before .before .before .before .loop .inv .2)
+    (λ c. c .before .before .before .before .before .loop .inv .2)
     returns
-    (λ c. omega (arith, c .before .before .before .before .before .before .loop-test .taken, c .before .before .before .before .before .before .before .before .before .before .pre .0 .1))
+    (λ c. omega (arith, c .before .before .before .before .before .before .before .loop-test .taken, c .before .before .before .before .before .before .before .before .before .before .before .before .pre .0 .1))
     put-entry-requires
     (λ c. search needs)
     (λ c. search needs)

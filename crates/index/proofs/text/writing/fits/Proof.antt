@@ -17,7 +17,8 @@ returns : tie.Need-returns
 returns c =
     let args = c .before .before .args in
     let b = now (args .b) in
-    let bound = entries-bound b (λ j. c .before .shared-slice-known .given j .fits) (args .first) (args .end - args .first) in
+    let p = c .before .before .pre in
+    let bound = entries-bound (p .3) (args .first) (args .end - args .first) (omega (arith, p .0, p .1)) in
     sym (le-leb (length (textOf (entriesFrom b (args .first) (args .end - args .first)))) (args .n) (omega (arith, bound, c .if1 .taken)))
 
 returns-2 : tie.Need-returns-2

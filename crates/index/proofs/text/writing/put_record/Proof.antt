@@ -15,7 +15,7 @@ put-byte-requires : tie.Need-put-byte-requires
 put-byte-requires c κs = omega (arith, decimal-five (c .before .before .before .before .id-at .result) (omega arith), c .before .before .before .put-decimal .ensures .ends)
 
 put-pieces-requires : tie.Need-put-pieces-requires
-put-pieces-requires c κs = omega (arith, decimal-five (c .before .before .before .before .before .before .before .before .id-at .result) (omega arith), c .before .before .before .before .before .before .before .put-decimal .ensures .ends, c .before .before .before .put-byte .ensures .ends)
+put-pieces-requires c κs = (omega (arith, decimal-five (c .before .before .before .before .before .before .before .before .id-at .result) (omega arith), c .before .before .before .before .before .before .before .put-decimal .ensures .ends, c .before .before .before .put-byte .ensures .ends), search needs, c .before .before .before .before .before .before .before .before .before .before .before .before .pre .2)
 
 returns : tie.Need-returns
 unfolding entryText
