@@ -29,8 +29,8 @@ pub data HowMany (P : ℕ → Type 0) : ℕ → ℕ → Type 0 where
   other : {m n : ℕ} → (P m → ⊥) → HowMany P m n → HowMany P (suc m) n
 
 -- "The number is, summed over rounds 0 to 31, the M records whose key's mark differs from the round before": over the rounds
--- below r the sum is t. The M records are numbered from 0 up to how many there are, and each counts, whatever it carries. "Request,
--- filter and markers have no part in it."
+-- below r the sum is t. The M records are numbered from 0 up to how many there are, and each counts, whatever it carries, one with
+-- marker counts alone too. "Request, filter and markers have no part in it."
 pub data Examined (b : List ℕ) (s : ℕ) : ℕ → ℕ → Type 0 where
   before : Examined b s 0 0
   round : {r t n : ℕ} → Examined b s r t → HowMany (λ i. Differs b s r (key b i)) (size b Membership) n

@@ -1,5 +1,6 @@
 -- What the support desk reads.
 pub mod Chain
+pub mod Groups
 pub mod Held
 pub mod Examined
 pub mod Questions

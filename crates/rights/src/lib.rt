@@ -2,7 +2,9 @@
 
 mod filter;
 mod grants;
+mod groups;
 mod lookup;
+mod members;
 mod questions;
 mod walk;
 

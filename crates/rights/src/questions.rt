@@ -4,9 +4,14 @@ use crate::Answer;
 use crate::Rights;
 use crate::filter::filter_of;
 use crate::grants::granted;
+use crate::groups::is_open;
 use index::ALL;
+ghost use Prim.Native.Nat.{_<_, _^_};
+ghost use Rattle.index.specs.Letters.{rightCount, In, Mask};
 ghost use Rattle.index.specs.Numbers.{Answers};
-ghost use Rattle.index.specs.Block.{Sized, Good};
+ghost use Rattle.index.specs.Block.{Sized, Good, IsName};
+ghost use Rattle.rights.specs.Held.{chainLimit};
+ghost use Rattle.rights.specs.Groups.{Open};
 ghost use Rattle.rights.specs.work.Lookup.{Lent};
 ghost use Rattle.rights.specs.Questions.{askNeeds, Asks, AsksAll, AsksBy, AsksAllBy};
 
@@ -34,6 +39,24 @@ fn refusal(user: u64, object: u64, request: u64) -> u8
     0
 }
 
+// The rights, if the object is open to the user, or none. It is looked at only where there are any; where no record counts X, nobody is bound.
+fn opened(block: &[u8], directory: &[u16], user: usize, object: usize, rights: u8) -> u8
+    requires { ⌜ Sized (now block) × (Good (now block) × Lent (now block) (now directory)) ⌝ }
+    requires { ⌜ IsName user × (IsName object × (rights < 2 ^ rightCount)) ⌝ }
+    ensures { λ r. ⌜ Mask r (λ k. Open chainLimit (now (block .entry)) user object × In k rights) ⌝ }
+{
+    if rights == 0 {
+        return 0;
+    }
+    if !index::counts_x(block) {
+        return rights;
+    }
+    if is_open(block, directory, user, object) {
+        return rights;
+    }
+    0
+}
+
 // The full question to a good block, by the directory if one is lent.
 fn held(block: &[u8], directory: &[u16], user: u64, object: u64, request: u64) -> Rights
     requires { ⌜ Sized (now block) × (Good (now block) × Lent (now block) (now directory)) ⌝ }
@@ -45,7 +68,14 @@ fn held(block: &[u8], directory: &[u16], user: u64, object: u64, request: u64) -
     }
     let wanted = filter_of(block, directory, object as usize) & (request as u8);
     let reach = granted(block, directory, user as usize, object as usize, wanted);
-    Rights::Held(reach.rights, reach.user, reach.object)
+    let rights = opened(
+        block,
+        directory,
+        user as usize,
+        object as usize,
+        reach.rights,
+    );
+    Rights::Held(rights, reach.user, reach.object)
 }
 
 // The short question to a good block, by the directory if one is lent.
@@ -62,7 +92,13 @@ fn all_held(block: &[u8], directory: &[u16], user: u64, object: u64, request: u6
         return Answer::No;
     }
     let reach = granted(block, directory, user as usize, object as usize, wanted);
-    if reach.rights == wanted {
+    if reach.rights != wanted {
+        return Answer::No;
+    }
+    if !index::counts_x(block) {
+        return Answer::Yes;
+    }
+    if is_open(block, directory, user as usize, object as usize) {
         return Answer::Yes;
     }
     Answer::No

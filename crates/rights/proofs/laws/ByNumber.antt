@@ -26,7 +26,7 @@ at-self of = record { of = of; has-key = refl; has-id = refl }
 
 module _ {b : List ℕ} (g : Good b) (kind : Kind) where
   module _ {x y : ℕ} where
-    counted : (k : ℕ) → 0 < count b kind x y k → (i : ℕ) × At b kind x y i
+    pub counted : (k : ℕ) → 0 < count b kind x y k → (i : ℕ) × At b kind x y i
     counted k pos = ⊎-elim (λ a. a) (λ n. absurd (omega (arith, count-none b kind x y k n))) (where-is b x y kind)
 
     pub is-where : Is b kind x y → (i : ℕ) × At b kind x y i

@@ -6,9 +6,10 @@ use mathlib.Core.Logic.{_↔_}
 use lib.ListN.{length}
 use Rattle.index.specs.declared.Kind.{Kind}
 use Rattle.index.specs.declared.Kind.the-variants.{Permission, Filter}
-use Rattle.index.specs.Block.{nameCount, Of, key}
+use Rattle.index.specs.Block.{nameCount, Of, key, id}
 use Rattle.directory.specs.declared.Span.{Span}
 use Rattle.directory.specs.Directory.{Own}
+use Rattle.rights.specs.Groups.{Member}
 use Rattle.rights.specs.Held.{Is, Net}
 
 -- Keys and ids, of 16 bits, are below this number.
@@ -41,3 +42,7 @@ EachOf b kind x P = (i : ℕ) → Of b kind i → key b i ≡ x → P i
 -- Right k is in the net mask of every F record of the name x.
 abbrev pub Lets : List ℕ → ℕ → ℕ → Type 0
 Lets b x k = (y : ℕ) → Is b Filter x y → Net b Filter x y k
+
+-- It is in the net mask of every F record of the group of M record i, if that is a membership.
+abbrev pub LetsBy : List ℕ → ℕ → ℕ → Type 0
+LetsBy b i k = Member b (key b i) (id b i) → Lets b (id b i) k

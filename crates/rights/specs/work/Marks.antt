@@ -9,9 +9,10 @@ use Rattle.index.specs.declared.Kind.the-variants.{Membership, Permission}
 use Rattle.index.specs.Letters.{rightCount, In, Mask}
 use Rattle.index.specs.Block.{nameCount, size, key}
 use Rattle.rights.specs.declared.walk.Carry.{Carry}
-use Rattle.rights.specs.declared.walk.Carry.the-variants.{Rights, Member}
+use Rattle.rights.specs.declared.walk.Carry.the-variants as carry
 use Rattle.rights.specs.Chain.{Chain}
-use Rattle.rights.specs.Held.{Is, Net, Carries, chainLimit, Reached}
+use Rattle.rights.specs.Groups.{Member, WithoutN, Closes}
+use Rattle.rights.specs.Held.{Net, Carries, chainLimit, Reached}
 use Rattle.rights.specs.Examined.{HowMany, Examined}
 
 -- Right k is in the mark of z.
@@ -23,10 +24,12 @@ pub record Marks (ms : List ℕ) : Type 0 where
   pub names : length ms ≡ nameCount
   pub small : (z : ℕ) → getD ms z 0 < 2 ^ rightCount
 
--- The link of a walk: an M record carries right k from x to y. It carries those of its net mask, or, masks disregarded, any.
+-- The link of a walk: an M record carries right k from x to y. It carries those of its net mask; or, masks disregarded, any, if it is a
+-- membership without N, or a membership.
 abbrev pub Carried : List ℕ → Carry → ℕ → ℕ → ℕ → Type 0
-Carried b Rights k x y = Carries b k x y
-Carried b Member k x y = Is b Membership x y
+Carried b carry.Rights k x y = Carries b k x y
+Carried b carry.WithoutN k x y = WithoutN b x y
+Carried b carry.Member k x y = Member b x y
 
 -- From the marks ms right k comes to z: z has it, or one M record brings it from the mark of its key.
 abbrev pub Brings : List ℕ → Carry → List ℕ → ℕ → ℕ → Type 0
@@ -51,8 +54,8 @@ pub data Walked (b : List ℕ) (carry : Carry) : ℕ → List ℕ → List ℕ �
       → Walked b carry (suc n) old ms ms₂ (c + t)
 
 -- One side of a question: the mark of z has the rights that a chain of at most n records carries from the start to it.
-unfoldable pub Side : List ℕ → ℕ → ℕ → List ℕ → Type 0
-Side b n start ms = (z : ℕ) → Mask (getD ms z 0) (λ k. Chain (Carries b k) n start z)
+unfoldable pub Side : List ℕ → Carry → ℕ → ℕ → List ℕ → Type 0
+Side b carry n start ms = (z : ℕ) → Mask (getD ms z 0) (λ k. Chain (Carried b carry k) n start z)
 
 -- M-109: the number of M records that it examines in n rounds is the definition's sum, and "at most four times the M records".
 pub record Count (b : List ℕ) (n start examined : ℕ) : Type 0 where
@@ -63,6 +66,10 @@ pub record Count (b : List ℕ) (n start examined : ℕ) : Type 0 where
 unfoldable pub Grants : List ℕ → List ℕ → List ℕ → ℕ → Type 0
 Grants b users objects k = (g : ℕ) × (s : ℕ) × Marked objects k g × Marked users k s × Net b Permission g s k
 
--- The user reaches right k on the object, whatever the filters.
+-- An M record that can be the last of a chain to her group has a mark at its key and one at its id.
+unfoldable pub Meets : List ℕ → List ℕ → List ℕ → Type 0
+Meets b users objects = (y : ℕ) × (g : ℕ) × Closes b y g × (0 < getD users y 0) × (0 < getD objects g 0)
+
+-- The user reaches right k on the object, whatever the filters and her groups.
 unfoldable pub Granted : List ℕ → ℕ → ℕ → ℕ → Type 0
 Granted b u o k = (s : ℕ) × (g : ℕ) × Reached chainLimit b u o k s g × Net b Permission g s k

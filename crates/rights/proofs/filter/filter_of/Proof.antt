@@ -10,7 +10,7 @@ use Rattle.index.specs.Letters.{Mask}
 use Rattle.index.proofs.laws.block.Masks.{in-all, mask-map}
 use Rattle.index.proofs.laws.block.Records.{of-records}
 use Rattle.rights.specs.Held.{Passes}
-use Rattle.rights.specs.work.Lookup.{Lets}
+use Rattle.rights.specs.work.Lookup.{Lets, LetsBy}
 use Rattle.directory.proofs.Numbered.{id-name, pair-id}
 use Rattle.rights.proofs.laws.held.Filters.{passes}
 use Rattle.rights.proofs.laws.held.Sifting.{Sifted, sifted-none, sifted-more, sifted-all}
@@ -19,7 +19,7 @@ use Rattle.rights.proofs.filter.filter_of.Tie as tie
 
 abbrev Inv-loop : tie.InvT-loop
 Inv-loop block directory object left₀ i₀ i-end left i =
-    Sifted block Membership object (λ j. Lets block (id block j)) (Lets block object) i₀ i left
+    Sifted block Membership object (LetsBy block) (Lets block object) i₀ i left
 
 abbrev μ-loop : tie.MeasureT-loop
 μ-loop block directory object left₀ i₀ i-end left i = i-end - i
@@ -29,26 +29,17 @@ loop-holds c =
     let own = mask-map (c .before .narrowed .ensures) _ (λ k h. ((λ p. p .0), (λ l. (l, in-all k h)))) in
     sifted-none (c .records-of .result) own (c .records-of .ensures)
 
--- The M record at hand, and its id.
-module _ (c : tie.After-pair-of Inv-loop μ-loop) where
-  good : Good (c .before .before .before .before .before .before .before .before .args .block .now)
-  good = c .before .before .before .before .before .before .before .before .pre .1 .0
-
-  of : Of (c .before .before .before .before .before .before .before .before .args .block .now) Membership (c .before .before .before .loop .i)
-  of = c .before .before .before .before .records-of .ensures (c .before .before .before .loop .i) .0 (c .before .before .before .loop .inv .low, c .before .before .loop-test .taken) .0
-
-  is-id : c .pair-of .result / 65536 ≡ id (c .before .before .before .before .before .before .before .before .args .block .now) (c .before .before .before .loop .i)
-  is-id = pair-id good (of-records Membership _ _ of) (c .pair-of .ensures)
-
-narrowed-requires-2 : tie.Need-narrowed-requires-2 Inv-loop μ-loop
-narrowed-requires-2 c κs =
-    (c .before .before .before .before .before .before .before .before .pre .0, (good c, (c .before .before .before .before .before .before .before .before .pre .1 .1 .0, (rw (is-id c) (id-name (good c) Membership (of c)), c .before .before .before .loop .inv .rights .0))))
+narrowed-by-requires : tie.Need-narrowed-by-requires Inv-loop μ-loop
+narrowed-by-requires c κs =
+    let s = c .before .before .before .before .before .before .before in
+    let loop = c .before .before .loop in
+    let of = c .before .before .before .records-of .ensures (loop .i) .0 (loop .inv .low, c .before .loop-test .taken) .0 in
+    (s .pre .0, (s .pre .1 .0, (s .pre .1 .1 .0, (of, loop .inv .rights .0))))
 
 loop-again : tie.Need-loop-again Inv-loop μ-loop
 loop-again c =
-    let records-of = c .before .before .before .before .before .records-of in
-    sifted-more (records-of .result) (c .before .before .before .before .loop .inv) (records-of .ensures) (c .before .before .before .loop-test .taken)
-    (rw (← is-id (c .before)) (c .narrowed2 .ensures))
+    let records-of = c .before .before .before .before .records-of in
+    sifted-more (records-of .result) (c .before .before .before .loop .inv) (records-of .ensures) (c .before .before .loop-test .taken) (c .narrowed-by .ensures)
 
 -- The loop is left once all groups were seen, or nothing is left.
 module _ (c : tie.At-loop Inv-loop μ-loop) where
@@ -75,8 +66,7 @@ filter-of-spec =
     (λ c κs. search needs)
     (λ c κs. search needs)
     loop-holds
-    (λ c κs. search needs)
-    narrowed-requires-2
+    narrowed-by-requires
     (λ c. search needs)
     (λ c. search needs)
     loop-again

@@ -8,8 +8,9 @@ use Rattle.index.specs.Letters.{rightCount}
 use Rattle.index.specs.Block.{id, Good, NetAt}
 use Rattle.index.specs.work.Places.{At}
 use Rattle.rights.specs.Held.{Looked, Passes}
-use Rattle.rights.specs.work.Lookup.{EachOf, Lets}
+use Rattle.rights.specs.work.Lookup.{EachOf, Lets, LetsBy}
 use Rattle.rights.proofs.laws.ByNumber.{is-at, is-where, net-at}
+use Rattle.rights.proofs.laws.held.Members.{member-where}
 
 module _ {b : List ℕ} (g : Good b) (k : ℕ) where
   pub lets : k < rightCount → (x : ℕ) → EachOf b Filter x (λ i. NetAt b i k) ↔ Lets b x k
@@ -20,16 +21,14 @@ module _ {b : List ℕ} (g : Good b) (k : ℕ) where
         net-at g Filter k h a .1 (all (id b i) (is-at g Filter a))),
   )
 
-  pub passes : (o : ℕ) → (EachOf b Membership o (λ i. Lets b (id b i) k) × Lets b o k) ↔ Passes b o k
+  pub passes : (o : ℕ) → (EachOf b Membership o (λ i. LetsBy b i k) × Lets b o k) ↔ Passes b o k
   unfolding Looked Passes
   passes o = (
     (λ p x l.
         ⊎-elim (λ e. subst (λ (n : ℕ). Lets b n k) (sym e) (p .1))
         (λ m.
-        let w = is-where g Membership m in subst (λ (n : ℕ). Lets b n k) (w .1 .has-id) (p .0 (w .0) (w .1 .of) (w .1 .has-key)))
+        let w = member-where g m in
+        subst (λ (n : ℕ). Lets b n k) (w .1 .has-id) (p .0 (w .0) (w .1 .of) (w .1 .has-key) (rw (w .1 .has-key, w .1 .has-id) m)))
         l),
-    (λ p. (
-      (λ i of e. p (id b i) (inr (is-at g Membership {y = id b i} (record { of = of; has-key = e; has-id = refl })))),
-      p o (inl refl),
-    )),
+    (λ p. ((λ i of e m. p (id b i) (inr (rw e at m))), p o (inl refl))),
   )

@@ -27,16 +27,18 @@ use Rattle.rights.proofs.laws.walk.MarksAreChains.{blank, first, After,
 abbrev clear : List ℕ
 clear = replicate nameCount 0
 
-pub walked-side : {b : List ℕ} {n t : ℕ} {ms : List ℕ} (start : ℕ) → IsName start → Walked b Rights n clear (first start) ms t → Side b n start ms
+pub walked-side : {b : List ℕ} (carry : Carry) {n t : ℕ} {ms : List ℕ} (start : ℕ) → IsName start → Walked b carry n clear (first start) ms t
+    → Side b carry n start ms
 unfolding Side
-walked-side {b} {n} {ms = ms} start h w =
+walked-side {b} carry {n} {ms = ms} start h w =
     let e : 0 + n ≡ n = omega arith in
-    subst (λ (m : ℕ). After b Rights start (suc m) ms) e (marks-are-chains b Rights start 0 (after-first b Rights start h) w)
+    subst (λ (m : ℕ). After b carry start (suc m) ms) e (marks-are-chains b carry start 0 (after-first b carry start h) w)
 
 -- How many records it examines.
-pub walked-count : {b : List ℕ} {n t : ℕ} {ms : List ℕ} (start : ℕ) → IsName start → Walked b Rights n clear (first start) ms t → Count b n start t
-walked-count {b} start h w =
-    let sum = walked-examined b start h w in
+pub walked-count : {b : List ℕ} (carry : Carry) {n t : ℕ} {ms : List ℕ} (start : ℕ) → IsName start → Walked b carry n clear (first start) ms t
+    → carry ≡ Rights → Count b n start t
+walked-count {b} carry {n} {t} {ms} start h w e =
+    let sum = walked-examined b start h (subst (λ (c : Carry). Walked b c n clear (first start) ms t) e w) in
     record { sum = sum; few = examined-few b start sum }
 
 -- At the start one mark has grown, and the list has its name.
@@ -56,7 +58,7 @@ start-settled b carry start k z h s = absurd (⊎-elim (λ m. unmarked z m) (λ 
 
 -- ---- both
 
-module _ (b us os : List ℕ) (u o : ℕ) (long : length os ≡ nameCount) (users : Side b chainLimit u us) (objects : Side b chainLimit o os) where
+module _ (b us os : List ℕ) (u o : ℕ) (long : length os ≡ nameCount) (users : Side b Rights chainLimit u us) (objects : Side b Rights chainLimit o os) where
   -- Name 0 counts in full for every object.
   with-zero : (z : ℕ) → Mask (getD (set os 0 allRights) z 0) (λ k. Chain (Carries b k) chainLimit o z ⊎ (z ≡ 0))
   unfolding Side

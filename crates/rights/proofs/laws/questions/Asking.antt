@@ -2,7 +2,7 @@
 use Prim.Native.Nat.{ℕ, suc, _^_, _<_, _≤_}
 use mathlib.Core.Path.{_≡_, refl}
 use mathlib.Core.List.{List, []}
-use mathlib.Core.Logic.{_↔_}
+use mathlib.Core.Logic.{_↔_, ⊎-elim}
 use native.Mathlib.Omega.{arith}
 use Rattle.index.specs.Letters.{rightCount, In, Mask}
 use Rattle.index.specs.Numbers.{First, Answers}
@@ -10,16 +10,19 @@ use Rattle.index.specs.Block.{Sized, Good, IsName}
 use Rattle.index.specs.Calls.{blockNeeds}
 use Rattle.index.proofs.laws.Firsts.{all-hold, refuses, refused-first, passed-first}
 use Rattle.index.proofs.laws.block.Masks.{mask-map, mask-covers}
-use Rattle.rights.specs.Held.{Passes, Holds}
+use Rattle.index.proofs.laws.Range.{lt-or-le}
+use Rattle.index.proofs.laws.block.MayHave.{some-letter, no-letter}
+use Rattle.rights.specs.Groups.{Open}
+use Rattle.rights.specs.Held.{chainLimit, Passes, Holds}
 use Rattle.rights.specs.work.Marks.{Granted}
 use Rattle.rights.specs.Questions.{askNeeds, questionNeeds, Limited, HoldsAll}
 
--- A right is held where it is reached and passes the filters.
-pub holds : (b : List ℕ) (u o k : ℕ) → (Granted b u o k × Passes b o k) ↔ Holds b u o k
+-- A right is held where it is reached and passes the filters, on an object that is open to the user.
+pub holds : (b : List ℕ) (u o k : ℕ) → (Granted b u o k × Passes b o k × Open chainLimit b u o) ↔ Holds b u o k
 unfolding Granted
 holds b u o k = (
-  (λ p. record { s = p .0 .0; g = p .0 .1; reached = p .0 .2; grant = p .0 .3; filters = p .1 }),
-  (λ h. ((h .s, h .g, h .reached, h .grant), h .filters)),
+  (λ p. record { s = p .0 .0; g = p .0 .1; reached = p .0 .2; grant = p .0 .3; filters = p .1; exclusive = p .2 }),
+  (λ h. ((h .s, h .g, h .reached, h .grant), h .filters, h .exclusive)),
 )
 
 -- ---- the requirements
@@ -72,28 +75,42 @@ module _ (b : List ℕ) (u o request : ℕ) where
 
   -- ---- the rights
 
-  -- The rights reached among those that the filters let through, limited to the request.
-  pub limited : {w r : ℕ} → Mask w (λ k. Passes b o k × In k request)
-      → Mask r (λ k. Granted b u o k × In k w) → Limited b u o request r
+  -- The rights reached among those that the filters let through, limited to the request, on an object that is open.
+  pub limited : {w r v : ℕ} → Mask w (λ k. Passes b o k × In k request) → Mask r (λ k. Granted b u o k × In k w)
+      → Mask v (λ k. Open chainLimit b u o × In k r) → Limited b u o request v
   unfolding Limited
-  limited wanted reached =
-      mask-map reached (λ k. Holds b u o k × In k request)
+  limited wanted reached opened =
+      mask-map opened (λ k. Holds b u o k × In k request)
       (λ k h. (
-        (λ p. let q = wanted .1 k h .0 (p .1) in (holds b u o k .0 (p .0, q .0), q .1)),
-        (λ p. let q = holds b u o k .1 (p .0) in (q .0, wanted .1 k h .1 (q .1, p .1))),
+        (λ p.
+            let q = reached .1 k h .0 (p .1) in
+            let w = wanted .1 k h .0 (q .1) in
+            (holds b u o k .0 (q .0, w .0, p .0), w .1)),
+        (λ p.
+            let q = holds b u o k .1 (p .0) in
+            (q .2, reached .1 k h .1 (q .0, wanted .1 k h .1 (q .1, p .1)))),
       ))
 
-  -- Every requested right passes the filters and is reached.
+  -- Every requested right passes the filters, is reached, and the object is open.
   module _ (small : request < 2 ^ rightCount) where
     pub filtered : {w : ℕ} → Mask w (λ k. Passes b o k × In k request) → HoldsAll b u o request → w ≡ request
     unfolding HoldsAll
     filtered wanted all = mask-covers request small wanted .1 (λ k h i. holds b u o k .1 (all k h i) .1)
 
-    pub covered : {w r : ℕ} → Mask w (λ k. Passes b o k × In k request) → w ≡ request → Mask r (λ k. Granted b u o k × In k request)
-        → (r ≡ request) ↔ HoldsAll b u o request
+    pub granted-all : {r : ℕ} → Mask r (λ k. Granted b u o k × In k request) → HoldsAll b u o request → r ≡ request
     unfolding HoldsAll
-    covered wanted same reached = (
-      (λ e k h i.
-          holds b u o k .0 (mask-covers request small reached .0 e k h i, mask-covers request small wanted .0 same k h i)),
-      (λ all. mask-covers request small reached .1 (λ k h i. holds b u o k .1 (all k h i) .0)),
-    )
+    granted-all reached all = mask-covers request small reached .1 (λ k h i. holds b u o k .1 (all k h i) .0)
+
+    pub held-all : {w r : ℕ} → Mask w (λ k. Passes b o k × In k request) → w ≡ request → Mask r (λ k. Granted b u o k × In k request)
+        → r ≡ request → Open chainLimit b u o → HoldsAll b u o request
+    unfolding HoldsAll
+    held-all wanted same reached e opened k h i =
+        holds b u o k .0 (mask-covers request small reached .0 e k h i, mask-covers request small wanted .0 same k h i, opened)
+
+    -- A request has a right, so that the object is open where all are held.
+    pub open-all : 1 ≤ request → HoldsAll b u o request → Open chainLimit b u o
+    unfolding HoldsAll
+    open-all some all =
+        let (k, i) = some-letter request some in
+        ⊎-elim (λ (h : k < rightCount). all k h i .exclusive)
+        (λ h. absurd (omega (arith, i, no-letter request rightCount k small h))) (lt-or-le k rightCount)

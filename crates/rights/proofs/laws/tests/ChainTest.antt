@@ -11,9 +11,10 @@ use lib.Dec.{eqb, ltb}
 use Rattle.index.specs.declared.Kind.the-variants.{Membership}
 use Rattle.index.specs.Letters.{rightCount}
 use Rattle.index.specs.Block.{size, key, id, Of, countAt, Good, NetAt}
-use Rattle.index.proofs.laws.Tests.{both}
+use Rattle.index.specs.work.Places.{At}
+use Rattle.index.proofs.laws.Tests.{both, some}
 use Rattle.rights.specs.Chain.{Chain}
-use Rattle.rights.specs.Held.{Carries}
+use Rattle.rights.specs.Held.{Net, Carries}
 use Rattle.rights.specs.Chain.Chain.{here}
 use Rattle.rights.proofs.laws.ByNumber.{at-self, net-at, net-where}
 use Rattle.rights.proofs.laws.walk.MarksAreChains.{stays, one-more}
@@ -43,6 +44,27 @@ member-later x y l h = go (eqb x y)
     go true = refl
     go false = h
 
+-- P holds of one of the n numbers from i on.
+pub some-from : (P : ℕ → Bool) (i n : ℕ) → some P i n ≡ true → (j : ℕ) × (i ≤ j) × (j < i + n) × (P j ≡ true)
+some-from P i zero e = let z : _≡_ {A = ℕ} 0 1 = cc in absurd (omega arith)
+some-from P i (suc n) e = go (some-from P (i + 1) n) (P i) refl e
+  where
+    go : (some P (i + 1) n ≡ true → (j : ℕ) × (i + 1 ≤ j) × (j < i + 1 + n) × (P j ≡ true)) → (t : Bool) → P i ≡ t
+        → cond t true (some P (i + 1) n) ≡ true → (j : ℕ) × (i ≤ j) × (j < i + suc n) × (P j ≡ true)
+    go later true q e = (i, omega arith, omega arith, q)
+    go later false q e = let r = later e in (r .0, omega (arith, r .1), omega (arith, r .2), r .3)
+
+pub from-some : (P : ℕ → Bool) (i n j : ℕ) → i ≤ j → j < i + n → P j ≡ true → some P i n ≡ true
+from-some P i zero j l h e = absurd (omega arith)
+from-some P i (suc n) j l h e =
+    ⊎-elim (λ q. rw (subst (λ (m : ℕ). P m ≡ true) (sym q) e) refl)
+    (λ k. go (P i) (from-some P (i + 1) n j (omega arith) (omega arith) e))
+    (eq-or-lt-of-le l)
+  where
+    go : (t : Bool) → some P (i + 1) n ≡ true → cond t true (some P (i + 1) n) ≡ true
+    go true r = refl
+    go false r = r
+
 -- Right k is in the net mask of record i.
 abbrev pub netTest : List ℕ → ℕ → ℕ → Bool
 netTest b k i = ltb 0 (countAt b i k) && eqb (countAt b i (k + rightCount)) 0
@@ -53,10 +75,11 @@ net-test b k i = (
   (λ n. and-true (lt-ltb _ _ (n .0)) (eq-eqb _ _ (n .1))),
 )
 
-module _ (b : List ℕ) (k : ℕ) where
-  -- Record i carries right k on from a name of the list.
+-- Chains through the M records that a test by their numbers takes.
+module _ (b : List ℕ) (link : ℕ → Bool) where
+  -- Record i goes on from a name of the list.
   abbrev carryTest : List ℕ → ℕ → Bool
-  carryTest old i = member (key b i) old && netTest b k i
+  carryTest old i = member (key b i) old && link i
 
   -- The list with the ids of those of the n records from i on that do.
   abbrev grow : List ℕ → List ℕ → ℕ → ℕ → List ℕ
@@ -109,10 +132,11 @@ module _ (b : List ℕ) (k : ℕ) where
         first : id b i ≡ z → carryTest old i ≡ true → member z (cond (carryTest old i) (id b i ∷ l) l) ≡ true
         first q e = rw e (subst (λ (y : ℕ). member y (id b i ∷ l) ≡ true) q (member-own (id b i) l))
 
-  module _ (g : Good b) (small : k < rightCount) where
+  -- It takes those of the link.
+  module _ (Link : ℕ → ℕ → Type 0) (takes : (i : ℕ) → Of b Membership i → (link i ≡ true) ↔ Link (key b i) (id b i))
+      (links : (x y : ℕ) → Link x y → (i : ℕ) × At b Membership x y i) where
     once : (l : List ℕ) (z : ℕ) → (member z (again l) ≡ true)
-        ↔ ((member z l ≡ true) ⊎ ((x : ℕ) × (member x l ≡ true) × Carries b k x z))
-    unfolding Carries
+        ↔ ((member z l ≡ true) ⊎ ((x : ℕ) × (member x l ≡ true) × Link x z))
     once l z = (
       (λ h.
           ⊎-elim (λ m. inl m)
@@ -122,28 +146,28 @@ module _ (b : List ℕ) (k : ℕ) where
           inr (
             key b (w .0),
             p .0,
-            subst (λ (y : ℕ). Carries b k (key b (w .0)) y) (w .3)
-                (net-at g Membership k small (at-self of) .0 (net-test b k (w .0) .0 (p .1))),
+            subst (λ (y : ℕ). Link (key b (w .0)) y) (w .3) (takes (w .0) of .0 (p .1)),
           ))
           (grown l z l 0 (size b Membership) h)),
       (λ s.
           ⊎-elim (λ m. grow-old l z l 0 (size b Membership) m)
           (λ t.
-          let w = net-where g Membership k (t .2) in
+          let w = links (t .0) z (t .2) in
           grow-new l z l 0 (size b Membership) (
             w .0,
             omega arith,
             omega (arith, w .1 .of .1),
             w .1 .has-id,
-            and-true (subst (λ (x : ℕ). member x l ≡ true) (sym (w .1 .has-key)) (t .1)) (net-test b k (w .0) .1 (w .2)),
+            and-true (subst (λ (x : ℕ). member x l ≡ true) (sym (w .1 .has-key)) (t .1))
+                (takes (w .0) (w .1 .of) .1 (rw (w .1 .has-key, w .1 .has-id) (t .2))),
           ))
           s),
     )
 
-    pub chain-test : (n u z : ℕ) → (member z (spread n u) ≡ true) ↔ Chain (Carries b k) n u z
+    pub chain-test : (n u z : ℕ) → (member z (spread n u) ≡ true) ↔ Chain Link n u z
     chain-test zero u z = (
       (λ m.
-          ⊎-elim (λ e. subst (λ (y : ℕ). Chain (Carries b k) 0 u y) (sym e) here)
+          ⊎-elim (λ e. subst (λ (y : ℕ). Chain Link 0 u y) (sym e) here)
           (λ no. let q : _≡_ {A = ℕ} 0 1 = cc in absurd (omega arith)) (member-first z u [] m)),
       (λ c. subst (λ (y : ℕ). member y (u ∷ []) ≡ true) (stays c) (member-own u [])),
     )
@@ -157,3 +181,22 @@ module _ (b : List ℕ) (k : ℕ) where
               step .1
               (⊎-elim (λ s. inl (chain-test n u z .1 s)) (λ t. inr (t .0, chain-test n u (t .0) .1 (t .1), t .2)) (more .0 c))),
         )
+
+carries : (b : List ℕ) (k x y : ℕ) → Carries b k x y ↔ Net b Membership x y k
+unfolding Carries
+carries b k x y = ((λ c. c), (λ c. c))
+
+-- The names that chains lead to which carry right k.
+abbrev pub carriedTo : List ℕ → ℕ → ℕ → ℕ → List ℕ
+carriedTo b k n u = spread b (netTest b k) n u
+
+pub carried-test : (b : List ℕ) (k : ℕ) → Good b → k < rightCount → (n u z : ℕ) → (member z (carriedTo b k n u) ≡ true) ↔ Chain (Carries b k) n u z
+carried-test b k g small = chain-test b (netTest b k) (Carries b k) takes links
+  where
+    takes : (i : ℕ) → Of b Membership i → (netTest b k i ≡ true) ↔ Carries b k (key b i) (id b i)
+    takes i of =
+        let same = net-at g Membership k small (at-self of) in
+        ((λ e. carries b k _ _ .1 (same .0 (net-test b k i .0 e))), (λ c. net-test b k i .1 (same .1 (carries b k _ _ .0 c))))
+
+    links : (x y : ℕ) → Carries b k x y → (i : ℕ) × At b Membership x y i
+    links x y c = let w = net-where g Membership k (carries b k x y .0 c) in (w .0, w .1)

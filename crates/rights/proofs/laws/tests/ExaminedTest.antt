@@ -16,9 +16,8 @@ use Rattle.rights.specs.Examined.{Mark, MarkBefore, Differs, HowMany, Ex
 use Rattle.rights.specs.Examined.HowMany.{none, one, other}
 use Rattle.rights.specs.Examined.Examined.{before, round}
 use Rattle.rights.proofs.laws.ByNumber.{net-where}
-use Rattle.rights.proofs.laws.tests.ChainTest.{and-true, member, spread, chain-test}
+use Rattle.rights.proofs.laws.tests.ChainTest.{and-true, from-some, member, carriedTo, carried-test}
 use Rattle.rights.proofs.laws.Counting.{count-none, count-zero}
-use Rattle.rights.proofs.laws.tests.HoldsTest.{from-some}
 use Rattle.rights.proofs.laws.walk.MarksAreChains.{one-more}
 
 -- ---- what computes
@@ -27,7 +26,7 @@ module _ (b : List ℕ) (s : ℕ) where
   -- Right k is in the mark of x before round n, and comes to it in round n.
   abbrev beforeTest : ℕ → ℕ → ℕ → Bool
   beforeTest ℕ.zero x k = false
-  beforeTest (suc n) x k = member x (spread b k n s)
+  beforeTest (suc n) x k = member x (carriedTo b k n s)
 
   abbrev newTest : ℕ → ℕ → ℕ → Bool
   newTest n x k = beforeTest (suc n) x k && not (beforeTest n x k)
@@ -71,7 +70,7 @@ module _ {b : List ℕ} (g : Good b) (s : ℕ) where
   before-test : (n x k : ℕ) → k < rightCount → (beforeTest b s n x k ≡ true) ↔ MarkBefore b s n x k
   unfolding MarkBefore Mark
   before-test ℕ.zero x k h = ((λ e. let z : _≡_ {A = ℕ} 0 1 = cc in omega arith), (λ f. absurd f))
-  before-test (suc n) x k h = chain-test b k g h n s x
+  before-test (suc n) x k h = carried-test b k g h n s x
 
   differs-test : (n x : ℕ) → (differsTest b s n x ≡ true) ↔ Differs b s n x
   unfolding Differs MarkBefore

@@ -16,8 +16,9 @@ use Rattle.rights.specs.Held.{Net, Holds, chainLimit}
 use Rattle.rights.specs.work.Marks.{Granted}
 use Rattle.rights.proofs.laws.questions.Asking.{holds}
 use Rattle.rights.proofs.laws.ByNumber.{at-self, net-at, net-where}
-use Rattle.rights.proofs.laws.tests.ChainTest.{and-true, member, member-first, member-own, member-later, netTest, net-test, spread, chain-test}
+use Rattle.rights.proofs.laws.tests.ChainTest.{and-true, some-from, from-some, member, member-first, member-own, member-later, netTest, net-test, carriedTo, carried-test}
 use Rattle.rights.proofs.laws.tests.FilterTest.{passesTest, passes-test}
+use Rattle.rights.proofs.laws.tests.OpenTest.{openTest, open-test}
 
 -- Record i grants right k to a name of the first list on a name of the second.
 abbrev grantTest : List ℕ → ℕ → List ℕ → List ℕ → ℕ → Bool
@@ -25,34 +26,13 @@ grantTest b k us os i = netTest b k i && (member (id b i) us && member (key b i)
 
 -- The names that chains of at most 32 records lead to.
 abbrev reach : List ℕ → ℕ → ℕ → List ℕ
-reach b k x = spread b k chainLimit x
+reach b k x = carriedTo b k chainLimit x
 
 abbrev pub holdsTest : List ℕ → ℕ → ℕ → ℕ → Bool
 holdsTest b u o k =
     let us = reach b k u in
     let os : List ℕ = 0 ∷ reach b k o in
-    ltb k rightCount && (passesTest b o k && some (grantTest b k us os) (from b Permission) (size b Permission))
-
--- P holds of one of the n numbers from i on.
-some-from : (P : ℕ → Bool) (i n : ℕ) → some P i n ≡ true → (j : ℕ) × (i ≤ j) × (j < i + n) × (P j ≡ true)
-some-from P i zero e = let z : _≡_ {A = ℕ} 0 1 = cc in absurd (omega arith)
-some-from P i (suc n) e = go (some-from P (i + 1) n) (P i) refl e
-  where
-    go : (some P (i + 1) n ≡ true → (j : ℕ) × (i + 1 ≤ j) × (j < i + 1 + n) × (P j ≡ true)) → (t : Bool) → P i ≡ t
-        → cond t true (some P (i + 1) n) ≡ true → (j : ℕ) × (i ≤ j) × (j < i + suc n) × (P j ≡ true)
-    go later true q e = (i, omega arith, omega arith, q)
-    go later false q e = let r = later e in (r .0, omega (arith, r .1), omega (arith, r .2), r .3)
-
-pub from-some : (P : ℕ → Bool) (i n j : ℕ) → i ≤ j → j < i + n → P j ≡ true → some P i n ≡ true
-from-some P i zero j l h e = absurd (omega arith)
-from-some P i (suc n) j l h e =
-    ⊎-elim (λ q. rw (subst (λ (m : ℕ). P m ≡ true) (sym q) e) refl)
-    (λ k. go (P i) (from-some P (i + 1) n j (omega arith) (omega arith) e))
-    (eq-or-lt-of-le l)
-  where
-    go : (t : Bool) → some P (i + 1) n ≡ true → cond t true (some P (i + 1) n) ≡ true
-    go true r = refl
-    go false r = r
+    ltb k rightCount && (passesTest b o k && (openTest b u o && some (grantTest b k us os) (from b Permission) (size b Permission)))
 
 module _ {b : List ℕ} (g : Good b) (u o k : ℕ) (small : k < rightCount) where
   -- A record that grants the right, and the names s and g.
@@ -64,8 +44,8 @@ module _ {b : List ℕ} (g : Good b) (u o k : ℕ) (small : k < rightCount) wher
         id b i,
         key b i,
         record {
-          user-chain = chain-test b k g small chainLimit u (id b i) .0 (q .0);
-          object-chain = ⊎-elim (λ z. inr z) (λ m. inl (chain-test b k g small chainLimit o (key b i) .0 m)) (member-first (key b i) 0 (reach b k o) (q .1));
+          user-chain = carried-test b k g small chainLimit u (id b i) .0 (q .0);
+          object-chain = ⊎-elim (λ z. inr z) (λ m. inl (carried-test b k g small chainLimit o (key b i) .0 m)) (member-first (key b i) 0 (reach b k o) (q .1));
         },
         net-at g Permission k small (at-self of) .0 (net-test b k i .0 (p .0)),
       )
@@ -74,9 +54,9 @@ module _ {b : List ℕ} (g : Good b) (u o k : ℕ) (small : k < rightCount) wher
   unfolding Granted
   grants t =
       let w = net-where g Permission k (t .3) in
-      let in-users = chain-test b k g small chainLimit u (t .0) .1 (t .2 .user-chain) in
+      let in-users = carried-test b k g small chainLimit u (t .0) .1 (t .2 .user-chain) in
       let in-objects : member (t .1) (0 ∷ reach b k o) ≡ true =
-      ⊎-elim (λ c. member-later (t .1) 0 (reach b k o) (chain-test b k g small chainLimit o (t .1) .1 c))
+      ⊎-elim (λ c. member-later (t .1) 0 (reach b k o) (carried-test b k g small chainLimit o (t .1) .1 c))
       (λ z. subst (λ (x : ℕ). member x (0 ∷ reach b k o) ≡ true) (sym z) (member-own 0 (reach b k o))) (t .2 .object-chain) in (
         w .0,
         w .1 .of,
@@ -92,13 +72,15 @@ holds-test {b} g u o k = (
       let p = both (ltb k rightCount) _ e in
       let h = ltb-true k rightCount (p .0) in
       let q = both (passesTest b o k) _ (p .1) in
-      let w = some-from (grantTest b k (reach b k u) (0 ∷ reach b k o)) (from b Permission) (size b Permission) (q .1) in
-      holds b u o k .0 (granted g u o k h (w .0) (w .1, w .2) (w .3), passes-test g k h o .0 (q .0))),
+      let v = both (openTest b u o) _ (q .1) in
+      let w = some-from (grantTest b k (reach b k u) (0 ∷ reach b k o)) (from b Permission) (size b Permission) (v .1) in
+      holds b u o k .0 (granted g u o k h (w .0) (w .1, w .2) (w .3), passes-test g k h o .0 (q .0), open-test g u o .0 (v .0))),
   (λ held.
       let h = held .grant .0 in
       let p = holds b u o k .1 held in
       let w = grants g u o k h (p .0) in
       and-true (lt-ltb k rightCount h)
       (and-true (passes-test g k h o .1 (p .1))
-      (from-some (grantTest b k (reach b k u) (0 ∷ reach b k o)) (from b Permission) (size b Permission) (w .0) (w .1 .0) (w .1 .1) (w .2)))),
+      (and-true (open-test g u o .1 (p .2))
+      (from-some (grantTest b k (reach b k u) (0 ∷ reach b k o)) (from b Permission) (size b Permission) (w .0) (w .1 .0) (w .1 .1) (w .2))))),
 )

@@ -15,22 +15,25 @@ use Rattle.index.specs.Block.{size, key, id, Of, Good}
 use Rattle.index.specs.work.Places.{At}
 use Rattle.index.proofs.laws.block.Masks.{mask-map, mask-limited, mask-either, mask-self}
 use Rattle.rights.specs.declared.walk.Carry.{Carry}
-use Rattle.rights.specs.declared.walk.Carry.the-variants.{Rights, Member}
+use Rattle.rights.specs.declared.walk.Carry.the-variants as carry
+use Rattle.rights.specs.Groups.{WithoutN}
 use Rattle.rights.specs.Held.{Carries}
 use Rattle.rights.specs.Examined.{HowMany}
 use Rattle.rights.specs.work.Marks.{Marked, Marks, Carried, Brings, Round, Read}
 use Rattle.rights.specs.work.Fronts.{Among, Front, Settled, Brought, Spread, Through}
 use Rattle.rights.proofs.laws.Counting.{count-map, count-span}
-use Rattle.rights.proofs.laws.ByNumber.{is-where, net-where}
+use Rattle.rights.proofs.laws.ByNumber.{net-where}
+use Rattle.rights.proofs.laws.held.Members.{member-where}
 use Rattle.directory.specs.Directory.{StartsAt}
 use Rattle.rights.proofs.laws.walk.Fronts.{among-more, front-same}
 use Rattle.rights.proofs.laws.walk.Looking.{Own, keyed}
 
 -- What carries a right is an M record.
 carried-where : {b : List ℕ} → Good b → (carry : Carry) (k x y : ℕ) → Carried b carry k x y → (i : ℕ) × At b Membership x y i
-unfolding Carries
-carried-where g Rights k x y c = let w = net-where g Membership k c in (w .0, w .1)
-carried-where g Member k x y c = is-where g Membership c
+unfolding Carries WithoutN
+carried-where g carry.Rights k x y c = let w = net-where g Membership k c in (w .0, w .1)
+carried-where g carry.WithoutN k x y c = member-where g (c .0)
+carried-where g carry.Member k x y c = member-where g c
 
 module _ (b : List ℕ) (carry : Carry) (ms : List ℕ) where
   pub spread-none : (D : ℕ → Type 0) → Marks ms → ((i : ℕ) → D i → ⊥) → Spread b carry ms D ms

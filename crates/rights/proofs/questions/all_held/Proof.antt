@@ -1,13 +1,17 @@
--- `questions::all_held` meets its contract: the refusal, the filter, and whether all requested rights are reached.
+-- `questions::all_held` meets its contract: the refusal, the filter, whether all requested rights are reached, and whether the object is open.
 use Prim.Native.Nat.{ℕ, _<_}
 use mathlib.Core.Path.{_≡_, refl}
 use mathlib.Core.List.{List}
 use mathlib.Core.Logic.{_↔_}
 use native.Mathlib.Omega.{arith}
 use borrow.Author.Needs.{needs}
+use Rattle.index.proofs.laws.Answer.{yes-is, no-is}
 use Rattle.index.proofs.laws.block.Masks.{mask-limited}
+use Rattle.rights.specs.Groups.{Open}
+use Rattle.rights.specs.Held.{chainLimit}
 use Rattle.rights.specs.Questions.{HoldsAll, Short, AsksAll}
-use Rattle.rights.proofs.laws.questions.Asking.{Asked, asked, positive, refused, accepts, filtered, covered}
+use Rattle.rights.proofs.laws.held.Grouping.{open-free}
+use Rattle.rights.proofs.laws.questions.Asking.{Asked, asked, positive, refused, accepts, filtered, granted-all, held-all, open-all}
 use Rattle.rights.proofs.questions.all_held.Statement.{statement}
 use Rattle.rights.proofs.questions.all_held.Tie as tie
 
@@ -63,16 +67,6 @@ returns-2 c =
 granted-requires : tie.Need-granted-requires
 granted-requires c κs = let a = all (c .before .before) in ((a .sized, (a .good, start (c .before .before) .pre .1 .1)), (a .user, a .object))
 
--- The rights reached are those requested exactly where all are held.
-whole : (c : tie.After-granted)
-    → let args = start (c .before .before .before) .args in
-    (c .granted .result .rights ≡ args .request) ↔ HoldsAll (args .block .now) (args .user) (args .object) (args .request)
-whole c =
-    let at = c .before .before .before in
-    let args = start at .args in
-    covered (args .block .now) (args .user) (args .object) (args .request) (all at .small)
-    (mask-limited (c .before .before .filter-of .ensures) (args .request)) (c .before .if2 .left) (c .granted .ensures .0)
-
 returns-3 : tie.Need-returns-3
 unfolding AsksAll Short
 returns-3 c =
@@ -81,18 +75,58 @@ returns-3 c =
     let u = start .args .user in
     let o = start .args .object in
     let q = start .args .request in
-    accepts b u o q (λ n. (n, 0)) (Answered b u o q) (0, 1) (all (c .before .before .before .before .before)) (yes b u o q (whole (c .before .before) .0 (c .if3 .taken)))
+    let a = all (c .before .before .before .before .before) in
+    accepts b u o q (λ n. (n, 0)) (Answered b u o q) (0, 0) a
+    (no b u o q (λ h. c .if3 .taken (granted-all b u o q (a .small) (c .before .before .granted .ensures .0) h)))
+
+-- All is held on an object that is open, where the filters and the grants let it.
+open-yes : (c : tie.Else3) → let args = start (c .before .before .before .before .before) .args in
+    Open chainLimit (args .block .now) (args .user) (args .object) → HoldsAll (args .block .now) (args .user) (args .object) (args .request)
+open-yes c =
+    let args = start (c .before .before .before .before .before) .args in
+    held-all (args .block .now) (args .user) (args .object) (args .request) (all (c .before .before .before .before .before) .small)
+    (mask-limited (c .before .before .before .before .filter-of .ensures) (args .request)) (c .before .before .before .if2 .left) (c .before .before .granted .ensures .0) (c .if3 .left)
 
 returns-4 : tie.Need-returns-4
 unfolding AsksAll Short
 returns-4 c =
-    let start = c .before .before .before .before .before .before .before .before .before in
+    let start = c .before .before .before .before .before .before .before .before .before .before .before in
     let b = start .args .block .now in
     let u = start .args .user in
     let o = start .args .object in
     let q = start .args .request in
-    accepts b u o q (λ n. (n, 0)) (Answered b u o q) (0, 0) (all (c .before .before .before .before .before))
-    (no b u o q (λ h. c .if3 .left (whole (c .before .before) .1 h)))
+    let a = all (c .before .before .before .before .before .before .before) in
+    accepts b u o q (λ n. (n, 0)) (Answered b u o q) (0, 1) a
+    (yes b u o q (open-yes (c .before .before) (open-free _ _ _ _ (a .good) _ (c .before .counts-x .ensures) (c .if4 .taken))))
+
+is-open-requires : tie.Need-is-open-requires
+is-open-requires c κs =
+    let a = all (c .before .before .before .before .before .before .before) in
+    ((a .sized, (a .good, start (c .before .before .before .before .before .before .before) .pre .1 .1)), (a .user, a .object))
+
+returns-5 : tie.Need-returns-5
+unfolding AsksAll Short
+returns-5 c =
+    let start = c .before .before .before .before .before .before .before .before .before .before .before .before .before in
+    let b = start .args .block .now in
+    let u = start .args .user in
+    let o = start .args .object in
+    let q = start .args .request in
+    let a = all (c .before .before .before .before .before .before .before .before .before) in
+    accepts b u o q (λ n. (n, 0)) (Answered b u o q) (0, 1) a
+    (yes b u o q (open-yes (c .before .before .before .before) (yes-is (c .if5 .taken) (c .before .is-open .ensures))))
+
+returns-6 : tie.Need-returns-6
+unfolding AsksAll Short
+returns-6 c =
+    let start = c .before .before .before .before .before .before .before .before .before .before .before .before .before in
+    let b = start .args .block .now in
+    let u = start .args .user in
+    let o = start .args .object in
+    let q = start .args .request in
+    let a = all (c .before .before .before .before .before .before .before .before .before) in
+    accepts b u o q (λ n. (n, 0)) (Answered b u o q) (0, 0) a
+    (no b u o q (λ h. no-is (c .if5 .left) (open-all b u o q (a .small) (a .some) h) (c .before .is-open .ensures)))
 
 pub all-held-spec : {M : Type 1} → statement M
 all-held-spec =
@@ -105,4 +139,8 @@ all-held-spec =
     returns-2
     granted-requires
     returns-3
-    returns-4)
+    (λ c κs. search needs)
+    returns-4
+    is-open-requires
+    returns-5
+    returns-6)

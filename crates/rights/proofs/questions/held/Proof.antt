@@ -38,18 +38,23 @@ cast-wanted c = omega (arith, all (c .before) .small)
 granted-requires : tie.Need-granted-requires
 granted-requires c κs = let a = all (c .before) in ((a .sized, (a .good, start (c .before) .pre .1 .1)), (a .user, a .object))
 
+opened-requires : tie.Need-opened-requires
+opened-requires c κs =
+    let a = all (c .before .before) in
+    ((a .sized, (a .good, start (c .before .before) .pre .1 .1)), (a .user, (a .object, c .granted .ensures .0 .0)))
+
 returns-2 : tie.Need-returns-2
 unfolding Asks Full
 returns-2 c =
-    let start = c .before .before .before .before .before .before in
+    let start = c .before .before .before .before .before .before .before in
     let b = start .args .block .now in
     let u = start .args .user in
     let o = start .args .object in
     let q = start .args .request in
-    let reach = c .granted .result in
-    let told = c .granted .ensures in
-    accepts b u o q unreported (Reports b u o q) (0, reach .rights, reach .user, reach .object) (all (c .before .before))
-    (refl, limited b u o q (mask-limited (c .before .filter-of .ensures) q) (told .0), told .1 .0 .sum, told .1 .1 .sum)
+    let reach = c .before .granted .result in
+    let told = c .before .granted .ensures in
+    accepts b u o q unreported (Reports b u o q) (0, c .opened .result, reach .user, reach .object) (all (c .before .before .before))
+    (refl, limited b u o q (mask-limited (c .before .before .filter-of .ensures) q) (told .0) (c .opened .ensures), told .1 .0 .sum, told .1 .1 .sum)
 
 pub held-spec : {M : Type 1} → statement M
 held-spec =
@@ -60,4 +65,5 @@ held-spec =
     filter-of-requires
     cast-wanted
     granted-requires
+    opened-requires
     returns-2)

@@ -1,0 +1,37 @@
+// What an M record says, masks disregarded: whether it is a membership, and which markers it counts.
+
+use index::WIDE;
+ghost use Rattle.index.specs.declared.Kind.the-variants.{Membership};
+ghost use Rattle.index.specs.Block.{Good, Of, key, id};
+ghost use Rattle.index.specs.work.Checks.{Says};
+ghost use Rattle.rights.specs.Groups.{Member, WithoutN, Closes};
+
+// M record i is a membership. It has no small letters, so that a letter which it counts is a capital one.
+pub(crate) fn is_member(block: &[u8], i: usize) -> bool
+    requires { ⌜ Good (now block) × Of (now block) Membership i ⌝ }
+    ensures { λ r. ⌜ Says (Member (now (block .entry)) (key (now (block .entry)) i) (id (now (block .entry)) i)) r ⌝ }
+{
+    0 < index::capitals_of(block, i)
+}
+
+// M record i is a membership, and does not count N.
+pub(crate) fn is_without_n(block: &[u8], i: usize) -> bool
+    requires { ⌜ Good (now block) × Of (now block) Membership i ⌝ }
+    ensures { λ r. ⌜ Says (WithoutN (now (block .entry)) (key (now (block .entry)) i) (id (now (block .entry)) i)) r ⌝ }
+{
+    if index::marks_of(block, i) >= WIDE {
+        return false;
+    }
+    is_member(block, i)
+}
+
+// M record i can be the last of a chain to a group that is hers.
+pub(crate) fn closes(block: &[u8], i: usize) -> bool
+    requires { ⌜ Good (now block) × Of (now block) Membership i ⌝ }
+    ensures { λ r. ⌜ Says (Closes (now (block .entry)) (key (now (block .entry)) i) (id (now (block .entry)) i)) r ⌝ }
+{
+    if index::marks_of(block, i) % WIDE == 0 {
+        return false;
+    }
+    is_without_n(block, i)
+}
