@@ -132,7 +132,7 @@ pub not-made : (b : List ℕ) → Sized b × Good b → MakesDirectory b [] (13,
 unfolding MakesDirectory makingNeeds blockNeeds
 not-made b fine = inr (fine .0, inr (fine .1, inl ((λ l. omega arith), refl)))
 
--- ---- of the block of 36 bytes, and of the one with a record in it
+-- ---- of the block of 40 bytes, and of the one with a record in it
 
 pub fine-nothing : Sized nothing × Good nothing
 unfolding Sized number countAt mayHave

@@ -1,17 +1,18 @@
 -- The test of each case of the table, and that it means what the case says.
 use Prim.Native.Nat.{ℕ}
-use mathlib.Core.Path.{_≡_, subst}
+use mathlib.Core.Path.{_≡_, refl, subst}
 use mathlib.Core.Bool.{true}
 use mathlib.Core.List.{List, [], _∷_}
+use mathlib.Core.Logic.{inl, inr}
 use lib.ListN.{length}
 use Rattle.index.specs.Numbers.{Each}
-use Rattle.index.specs.Message.{kindOf, previous, new, changes}
-use Rattle.index.specs.Calls.{Message}
+use Rattle.index.specs.Message.{kindOf, previous, new, changes, WellFormed}
+use Rattle.index.specs.Calls.{blockNeeds, messageNeeds, Message}
 use Rattle.index.specs.Text.{textOf, setOf}
 use Rattle.index.proofs.laws.message.MessageTest.{messageTest, message-test, lastOf}
 use Rattle.tight.specs.Examples.{Case, Shows}
-use Rattle.tight.proofs.BlockTest.{blockTest}
-use Rattle.tight.proofs.RightsTest.{Tested, rights-test, everywhereTest, everywhere-test}
+use Rattle.tight.proofs.BlockTest.{blockTest, block-test}
+use Rattle.tight.proofs.RightsTest.{rightsTest, Tested, rights-test, everywhereTest, everywhere-test}
 use Rattle.tight.proofs.TextTest.{setTest, text-test, wrongTest, wrong-test, empty-text}
 use Rattle.tight.proofs.RefusedTest.{changeTest, refused-test}
 
@@ -19,6 +20,7 @@ use Rattle.tight.proofs.RefusedTest.{changeTest, refused-test}
 abbrev pub Test : Case → Type 0
 Test (Case.rights b u o mask i j) = Tested b u mask o i j
 Test (Case.everywhere b u mask) = everywhereTest b u mask ≡ true
+Test (Case.holds b u o mask) = rightsTest b u mask o ≡ true
 Test (Case.text b kind x t n) =
     (setTest b kind x ≡ true) × (textOf (setOf b (kindOf kind) x) ≡ t) × (length (setOf b (kindOf kind) x) ≡ n)
 Test (Case.wrong t place) = wrongTest t place ≡ true
@@ -27,17 +29,25 @@ Test (Case.accepted b m b′) = (ds : List (List ℕ)) × (messageTest b m ds �
 Test (Case.refused b m n) =
     (b₀ : List ℕ) × (ds : List (List ℕ)) × (messageTest b₀ m ds ≡ true) × (blockTest b ≡ true)
     × (changeTest (changes (previous m) (new m)) b n ≡ true)
+Test (Case.malformed b m) = (blockTest b ≡ true) × (WellFormed m → ⊥)
+
+-- A message that is not well formed, to a good block.
+malformed : (b m : List ℕ) → blockTest b ≡ true → (WellFormed m → ⊥) → Message b m (3, b)
+unfolding Message messageNeeds blockNeeds
+malformed b m e wrong = let t = block-test b e in inr (t .0, inr (t .1, inl (wrong, refl)))
 
 -- Each test means what its case says.
 means : (c : Case) → Test c → Shows c
 means (Case.rights b u o mask i j) e = rights-test b u mask o i j e
 means (Case.everywhere b u mask) e = everywhere-test b u mask e
+means (Case.holds b u o mask) e = (_, _, rights-test b u mask o _ _ (e, refl, refl))
 means (Case.text b kind x t n) e = text-test b kind x t n (e .0) (e .1) (e .2)
 means (Case.wrong t place) e = wrong-test t place e
 means Case.empty e = empty-text
 means (Case.accepted b m b′) e = subst (λ (d : List ℕ). Message b m (0, d)) (e .2) (message-test b m (e .0) (e .1))
 means (Case.refused b m n) e =
     refused-test (e .0) (lastOf (e .0) (e .1)) b m n (message-test (e .0) m (e .1) (e .2)) (e .3) (e .4)
+means (Case.malformed b m) e = malformed b m (e .0) (e .1)
 
 pub all-mean : (cs : List Case) → Each Test cs → Each Shows cs
 all-mean [] e = tt

@@ -8,7 +8,7 @@ use Rattle.index.specs.declared.Kind.{Kind}
 use Rattle.index.specs.declared.Kind.the-variants.{Membership, Permission}
 use Rattle.index.specs.Letters.{mayHave}
 use Rattle.index.specs.Block.{number, Sized, Good, countAt, count}
-use Rattle.index.specs.Message.{IsKind, kindOf, kindNumber, kindIn, flags, present, halfAt, halves, moves}
+use Rattle.index.specs.Message.{IsKind, kindOf, kindNumber, kindIn, flags, present, markers, maskWith, halfAt, halves, moves}
 use Rattle.index.specs.Calls.{blockNeeds, Makes, ReadsSet}
 use Rattle.index.specs.History.{left, others, after, movesOf, tally}
 use Rattle.index.proofs.laws.Firsts.{first-passed, first-sure}
@@ -180,7 +180,7 @@ module _ (p : Program) (meets : Meets p) where
       let none = emptied (reads 1) 2 9 (fine-one .0) (fine-one .1) (omega arith, omega arith) (omega arith) (o .0, o .1, o .2) (read .0) 1 1 (omega arith) in
       omega (arith, none, ap (λ (b : List ℕ). count b Permission 9 1 1) (keeps (reads 1) (d .0) 2 9 []), count-of-one)
 
-  -- M-106: the directory of the block of 36 bytes is another than that of the block with a record in it.
+  -- M-106: the directory of the block of 40 bytes is another than that of the block with a record in it.
   pub not-behind : LeavesBehind p → ⊥
   unfolding IsKind kindOf
   not-behind (LeavesBehind.messages keeps) =
@@ -233,7 +233,7 @@ module _ (p : Program) (meets : Meets p) where
 -- The mill's own fault is of that kind: a program that takes two appointments in and keeps at most 1 for any.
 pub one-for-any : (p : Program) → p .make nothing .0 ≡ 0 → ((b : List ℕ) → p .message b give .0 ≡ 0)
     → ((b m : List ℕ) (kind : Kind) (x y k : ℕ) → count (p .message b m .1) kind x y k ≤ 1) → MakesUpCounts p
-unfolding kindIn flags present halfAt halves kindOf kindNumber number left others after moves movesOf tally
+unfolding kindIn flags present markers maskWith halfAt halves kindOf kindNumber number left others after moves movesOf tally
 one-for-any p m a few =
     let b = p .make nothing .1 in
     let c = p .message b give .1 in

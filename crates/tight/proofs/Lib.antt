@@ -1,5 +1,6 @@
 -- The theorems.
 pub mod FiveEmpty
+pub mod Marked
 pub mod Demand3
 pub mod Mill
 pub mod Starred

@@ -1,14 +1,14 @@
--- The mill's own case: two appointments give the right to read on 9 to 1, then one ends, then the other.
+-- The mill's own case: two appointments give the right to read on 9 to 1, then one ends, then the other; and one with a marker.
 use Prim.Native.Nat.{ℕ, _≤_}
-use mathlib.Core.Path.{_≡_, refl, sym}
+use mathlib.Core.Path.{_≡_, refl, sym, ap}
 use mathlib.Core.List.{List, [], _∷_, List·Permᴰ}
 use mathlib.Core.Logic.{inr}
 use lib.ListN.{length}
 use native.Mathlib.Omega.{arith}
-use Rattle.index.specs.declared.Kind.the-variants.{Permission}
-use Rattle.index.specs.Letters.{In, mayHave}
+use Rattle.index.specs.declared.Kind.the-variants.{Membership, Permission}
+use Rattle.index.specs.Letters.{markerX, markerN, In, mayHave}
 use Rattle.index.specs.Block.{number, Sized, countAt, count}
-use Rattle.index.specs.Message.{kindOf, kindNumber, kindIn, flags, present, halfAt, halves, previous, moves}
+use Rattle.index.specs.Message.{kindOf, kindNumber, kindIn, flags, present, markers, maskWith, halfAt, halves, previous, Half, moves}
 use Rattle.index.specs.Calls.{blockNeeds, Makes, makeNeeds, Message}
 use Rattle.index.specs.History.{Sent, Accepted, Labelled, Statement, left, others, after, History, movesOf, tally}
 use Rattle.index.specs.History.Sent.{plain}
@@ -19,11 +19,12 @@ use Rattle.index.proofs.laws.block.GoodTest.{good-test}
 use Rattle.index.proofs.laws.block.Masks.{four}
 use Rattle.rights.specs.Held.{Holds}
 use Rattle.rights.specs.Questions.{questionNeeds, Limited, HoldsAll, Full, Short}
-use Rattle.tight.specs.Blocks.{nothing, reads, give, withdraw}
+use Rattle.tight.specs.Blocks.{giving, withdrawing, nothing, reads, give, withdraw}
+use Rattle.tight.specs.Examples.{member, giveX, fromXtoN}
 use Rattle.tight.specs.Programs.{Program, Meets, run}
 use Rattle.rights.proofs.laws.questions.OneAnswer.{accepted-full}
 use Rattle.tight.proofs.Programs.{runs, answers}
-use Rattle.tight.proofs.Starred.{appointments-right}
+use Rattle.tight.proofs.Starred.{appointments-right, markers-right}
 use Rattle.tight.proofs.Demand3.{first-half, second-half}
 
 -- "It makes an empty index block": what make leaves of any block of that length.
@@ -110,24 +111,50 @@ abbrev both-stand : List Statement
 both-stand = after (by 2 give) (after (by 1 give) [])
 
 ended : (i j : ℕ) → previous withdraw ≡ left i both-stand → previous withdraw ≡ left j (after (by i withdraw) both-stand) → Ended i j
-unfolding kindIn flags present halfAt halves kindOf number left others after
+unfolding kindIn flags present markers maskWith halfAt halves kindOf number left others after
 ended i j p q =
     (_, accepted first-given refl (accepted second-given refl (accepted one-withdrawn p (accepted both-withdrawn q History.nothing))))
 
 -- Whichever ends first, the block is empty again.
 pub either-first : Ended 1 2 × Ended 2 1
-unfolding kindIn flags present halfAt halves kindOf number left others after
+unfolding kindIn flags present markers maskWith halfAt halves kindOf number left others after
 either-first = (ended 1 2 refl refl, ended 2 1 refl refl)
 
 -- Demand 3 by the numbers: the count is 1 when one stands, and 2 when both do.
 pub count-of-one : count (reads 1) Permission 9 1 1 ≡ 1
-unfolding kindIn flags present halfAt halves kindOf kindNumber number left others after moves movesOf tally
+unfolding kindIn flags present markers maskWith halfAt halves kindOf kindNumber number left others after moves movesOf tally
 count-of-one =
     second-half nothing nothing (reads 1) (by 1 give ∷ []) _ (made nothing refl) (accepted first-given refl History.nothing)
     Permission 9 1 1 (omega arith)
 
 pub count-of-two : count (reads 2) Permission 9 1 1 ≡ 2
-unfolding kindIn flags present halfAt halves kindOf kindNumber number left others after moves movesOf tally
+unfolding kindIn flags present markers maskWith halfAt halves kindOf kindNumber number left others after moves movesOf tally
 count-of-two =
     second-half nothing nothing (reads 2) (by 1 give ∷ by 2 give ∷ []) _ (made nothing refl)
     (accepted first-given refl (accepted second-given refl History.nothing)) Permission 9 1 1 (omega arith)
+
+-- ---- M-107: an appointment with a marker, "part of what a statement leaves and has to quote"
+
+pub x-given : Message nothing giveX (0, member 1 1 0)
+x-given = markers-right .0
+
+-- Two appointments to one group, the first with X, which becomes N.
+abbrev marked-story : List Labelled
+marked-story = by 1 giveX ∷ by 2 (giving 1 1 10 3) ∷ by 1 fromXtoN ∷ []
+
+-- "demand 3 counts it as a letter": X counts 0 then, N 1, and R 2.
+pub marked-counts : (count (member 2 0 1) Membership 1 10 markerX ≡ 0) × (count (member 2 0 1) Membership 1 10 markerN ≡ 1) × (count (member 2 0 1) Membership 1 10 1 ≡ 2)
+unfolding kindIn flags present markers maskWith halfAt halves kindOf kindNumber number left others after moves movesOf tally
+marked-counts =
+    let counts = second-half nothing nothing (member 2 0 1) marked-story _ (made nothing refl)
+    (accepted x-given refl (accepted (markers-right .1 .0) refl (accepted (markers-right .1 .1 .0) refl History.nothing))) Membership 1 10 in
+    (counts markerX (omega arith), counts markerN (omega arith), counts 1 (omega arith))
+
+-- Without its marker the first appointment is not quoted: a withdrawal with the letters alone is none of its history.
+pub not-quoted : previous (withdrawing 1 1 10 3) ≡ left 1 (after (by 1 giveX) []) → ⊥
+unfolding kindIn flags present markers maskWith halfAt halves kindOf number left others after
+not-quoted e = omega (arith, ap masked e)
+  where
+    masked : List Half → ℕ
+    masked [] = 0
+    masked (h ∷ hs) = h .mask

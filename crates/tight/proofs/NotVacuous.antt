@@ -9,7 +9,7 @@ use Rattle.index.specs.declared.Kind.the-variants.{Permission}
 use Rattle.index.specs.Letters.{letterCount, letters, mayHave}
 use Rattle.index.specs.Numbers.{Answers, Each}
 use Rattle.index.specs.Block.{number, countAt, countFrom, count, room, Sized, nameCount, Good}
-use Rattle.index.specs.Message.{IsKind, kindOf, kindIn, flags, present, halfAt, halves, previous, new, changes, ownCount, WellFormed, Named, Masked, Carried, packed, packedKind, packedHalf, packedChange, packedChanges}
+use Rattle.index.specs.Message.{IsKind, kindOf, kindIn, flags, present, markers, maskWith, halfAt, halves, previous, new, changes, ownCount, Marked, WellFormed, Named, Masked, Carried, PackedWell, packed, packedKind, packedHalf, packedChange, packedChanges}
 use Rattle.index.specs.Text.{Writes, digitsOf, decimal, pieceOf, piecesOf, entryText, textOf, countsFrom, countsAt, setFrom, setOf}
 use Rattle.index.specs.work.Reading.{digit, reaches, readDigits, readNumber, readCount, readLetter, readCounts, readMark, readRecord, readMore, readRecords, parse}
 use Rattle.index.specs.Calls.{blockNeeds, makeNeeds, messageNeeds, setNeeds, writeNeeds, Makes, Message, WritesSet, ReadsSet, listNeeds, CarriesOut}
@@ -80,7 +80,7 @@ unfolding blockNeeds Sized number
 no-header =
     calls-give (zeros 16) 2 (omega arith) (inr ((omega arith, omega arith), inl ((λ g. omega (arith, g .m-offset)), refl)))
 
--- ---- what each call is given, on the block of 36 bytes
+-- ---- what each call is given, on the block of 40 bytes
 
 past-block : (us : List (ℕ × Type 0)) (r : ℕ) → Answers us r → Answers (blockNeeds nothing ++ us) r
 unfolding blockNeeds Sized number countAt mayHave
@@ -115,23 +115,27 @@ no-message = message-gives nothing 3 (omega arith) [] (past-block _ 3 (inl ((λ 
 
 -- A message with both halves has the form; one whose new half has the id nameCount, and one whose new half has the mask 0.
 both-halves : (x y mask : ℕ) → WellFormed (moving 2 (halfBytes 9 1 2) (halfBytes x y mask))
-unfolding IsKind kindIn flags present
+unfolding IsKind kindIn flags present markers Marked
 both-halves x y mask =
     record {
       twelve = refl;
-      kind = (omega arith, omega arith);
-      some-half = (omega arith, omega arith);
+      begun =
+          record {
+            kind = (omega arith, omega arith);
+            some-half = (omega arith, omega arith);
+            marked = each-half _ (inl (omega arith)) (inl (omega arith));
+          };
       absent = each-half _ (λ e. absurd (differ e)) (λ e. absurd (differ e));
     }
 
 no-name : MessageGives 4
-unfolding messageNeeds Named kindIn flags present halfAt halves kindOf number
+unfolding messageNeeds Named kindIn flags present markers maskWith halfAt halves kindOf number
 no-name =
     message-gives nothing 4 (omega arith) (moving 2 (halfBytes 9 1 2) (halfBytes 9 nameCount 2))
     (past-block _ 4 (inr (both-halves 9 nameCount 2, inl ((λ n. omega (arith, n .1 .0 .1)), refl))))
 
 no-mask : MessageGives 5
-unfolding messageNeeds Named Masked kindIn flags present halfAt halves kindOf number
+unfolding messageNeeds Named Masked kindIn flags present markers maskWith halfAt halves kindOf number
 no-mask =
     message-gives nothing 5 (omega arith) (moving 2 (halfBytes 9 1 2) (halfBytes 9 1 0))
     (past-block _ 5
@@ -142,7 +146,7 @@ no-mask =
 
 -- A withdrawal where nothing stands.
 none-stands : Message nothing withdraw (6, nothing)
-unfolding number countAt countFrom count mayHave kindOf kindIn flags present halfAt halves changes ownCount
+unfolding number countAt countFrom count mayHave kindOf kindIn flags present markers maskWith halfAt halves changes ownCount
 none-stands = refused-test (reads 1) nothing nothing withdraw 6 both-withdrawn refl refl
 
 -- ---- a list of one change: R for the id 1 on a key, given or withdrawn
@@ -152,21 +156,21 @@ change adds kind x mask = packed adds kind x 1 mask ∷ []
 
 -- Kind 0, key nameCount and mask 0.
 list-no-kind : ListGives 3
-unfolding listNeeds IsKind packedKind packed
-list-no-kind = list-gives nothing 3 (omega arith) (change true 0 9 2) (past-block _ 3 (inl ((λ k. omega (arith, k .0 .0)), refl)))
+unfolding listNeeds PackedWell IsKind packedKind packed
+list-no-kind = list-gives nothing 3 (omega arith) (change true 0 9 2) (past-block _ 3 (inl ((λ k. omega (arith, k .0 .0 .0)), refl)))
 
 list-no-name : ListGives 4
-unfolding listNeeds IsKind packedKind packedHalf packed Named
+unfolding listNeeds PackedWell Marked IsKind packedKind packedHalf packed Named
 list-no-name =
     list-gives nothing 4 (omega arith) (change true 2 nameCount 2)
-    (past-block _ 4 (inr (((omega arith, omega arith), tt), inl ((λ n. omega (arith, n .0 .0)), refl))))
+    (past-block _ 4 (inr ((((omega arith, omega arith), inl (omega arith)), tt), inl ((λ n. omega (arith, n .0 .0)), refl))))
 
 list-no-mask : ListGives 5
-unfolding listNeeds IsKind packedKind packedHalf packed Named Masked
+unfolding listNeeds PackedWell Marked IsKind packedKind packedHalf packed Named Masked
 list-no-mask =
     list-gives nothing 5 (omega arith) (change true 2 9 0)
     (past-block _ 5
-    (inr (((omega arith, omega arith), tt), inr (((omega arith, omega arith), tt), inl ((λ n. omega (arith, n .0 .0)), refl)))))
+    (inr ((((omega arith, omega arith), inl (omega arith)), tt), inr (((omega arith, omega arith), tt), inl ((λ n. omega (arith, n .0 .0)), refl)))))
 
 -- Where the tests are passed, the change decides.
 list-decides : (b cs : List ℕ) (o : ℕ × List ℕ) → Sized b × Good b → All (ownNeeds cs) → Carried b (packedChanges cs) b o → CarriesOut b cs o
@@ -177,16 +181,16 @@ abbrev tests : List ℕ → Type 0
 tests cs = All (ownNeeds cs)
 
 one-passes : tests (change true 2 9 2) × tests (change false 2 9 2) × tests (change true 2 10 2)
-unfolding IsKind packedKind packedHalf packed Named Masked kindOf mayHave
+unfolding PackedWell Marked IsKind packedKind packedHalf packed Named Masked kindOf mayHave
 one-passes = (
-  (((omega arith, omega arith), tt), (((omega arith, omega arith), tt), (((omega arith, mask-test (packedHalf (packed true 2 9 1 2)) refl), tt), tt))),
-  (((omega arith, omega arith), tt), (((omega arith, omega arith), tt), (((omega arith, mask-test (packedHalf (packed false 2 9 1 2)) refl), tt), tt))),
-  (((omega arith, omega arith), tt), (((omega arith, omega arith), tt), (((omega arith, mask-test (packedHalf (packed true 2 10 1 2)) refl), tt), tt))),
+  ((((omega arith, omega arith), inl (omega arith)), tt), (((omega arith, omega arith), tt), (((omega arith, mask-test (packedHalf (packed true 2 9 1 2)) refl), tt), tt))),
+  ((((omega arith, omega arith), inl (omega arith)), tt), (((omega arith, omega arith), tt), (((omega arith, mask-test (packedHalf (packed false 2 9 1 2)) refl), tt), tt))),
+  ((((omega arith, omega arith), inl (omega arith)), tt), (((omega arith, omega arith), tt), (((omega arith, mask-test (packedHalf (packed true 2 10 1 2)) refl), tt), tt))),
 )
 
 -- As the mill's messages: accepted, nothing to withdraw, no count left to add to, and no room.
 list-accepted : CarriesOut nothing (change true 2 9 2) (0, reads 1)
-unfolding Message messageNeeds blockNeeds number countAt mayHave packedChange packedHalf packedKind packed kindOf kindIn flags present halfAt halves changes
+unfolding Message messageNeeds blockNeeds number countAt mayHave packedChange packedHalf packedKind packed kindOf kindIn flags present markers maskWith halfAt halves changes
 list-accepted =
     let p = first-passed (λ n. (n, nothing)) (Carried nothing (changes (previous give) (new give)) nothing) (0, reads 1) (λ o. o .0) (λ n. refl) (messageNeeds nothing give) (omega arith) refl first-given in
     list-decides nothing (change true 2 9 2) (0, reads 1) (p .0 .0, p .0 .1 .0) (one-passes .0) (p .1)

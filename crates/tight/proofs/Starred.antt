@@ -1,15 +1,19 @@
 -- The starred examples of 01: the whole table, by tests that compute.
 use Prim.Native.Nat.{ℕ}
-use mathlib.Core.Path.{refl}
+use mathlib.Core.Path.{refl, sym, ap}
 use mathlib.Core.List.{List, [], _∷_, _++_}
+use mathlib.Core.Logic.{⊎-elim}
+use native.Mathlib.Omega.{arith}
 use Rattle.index.specs.Letters.{letters, mayHave}
 use Rattle.index.specs.Numbers.{Each}
 use Rattle.index.specs.Block.{number, countAt, countFrom, count, room}
-use Rattle.index.specs.Message.{kindOf, kindNumber, kindIn, flags, present, halfAt, halves, changes, moves, taken, added, ownCount}
+use Rattle.index.specs.Message.{kindOf, kindNumber, kindIn, flags, present, maskWith, halfAt, halves, changes, moves, taken, added, ownCount, Marked, WellFormed}
+use Rattle.index.specs.Message as message
 use Rattle.index.specs.Text.{digitsOf, decimal, pieceOf, piecesOf, entryText, textOf, countsFrom, countsAt, setFrom, setOf}
 use Rattle.index.specs.work.Reading.{digit, reaches, readDigits, readNumber, readCount, readLetter, readCounts, readMark, readRecord, readMore, readRecords, parse}
-use Rattle.tight.specs.Blocks.{once, block, nothing, reads}
-use Rattle.tight.specs.Examples.{Case, Shows, granted, masks, texts, places, chains, examined, appointments, limits, cases}
+use Rattle.tight.specs.Blocks.{once, block, takesX, giving, nothing, reads}
+use Rattle.tight.specs.Examples.{Case, Shows, granted, masks, texts, places, chains, examined, appointments, limits, member, markers, firms, cases}
+use Rattle.index.proofs.laws.message.Halves.{differ}
 use Rattle.tight.proofs.CaseTest.{all-mean}
 
 -- The tests of one case after the other.
@@ -18,7 +22,7 @@ pub _and_ : {A B : Type 0} → A → B → A × B
 a and b = (a, b)
 
 masks-right : Each Shows masks
-unfolding number countAt countFrom count room mayHave kindOf kindNumber kindIn flags present halfAt halves changes moves taken added ownCount
+unfolding number countAt countFrom count room mayHave kindOf kindNumber kindIn flags present message.markers maskWith halfAt halves changes moves taken added ownCount
 masks-right = all-mean masks ((granted 135 ∷ [], refl, refl) and (refl, refl, refl) and (granted 79 ∷ [], refl, refl) and (refl, refl, refl) and tt)
 
 pub texts-right : Each Shows texts
@@ -40,7 +44,7 @@ unfolding number countAt mayHave
 examined-right = all-mean examined ((refl, refl, refl) and (refl, refl, refl) and (refl, refl, refl) and (refl, refl, refl) and (refl, refl, refl) and (refl, refl, refl) and (refl, refl, refl) and tt)
 
 pub appointments-right : Each Shows appointments
-unfolding number countAt countFrom count room mayHave kindOf kindNumber kindIn flags present halfAt halves changes moves taken added ownCount
+unfolding number countAt countFrom count room mayHave kindOf kindNumber kindIn flags present message.markers maskWith halfAt halves changes moves taken added ownCount
 appointments-right =
     all-mean appointments
     ((reads 1 ∷ [], refl, refl)
@@ -52,7 +56,7 @@ appointments-right =
     and tt)
 
 pub limits-right : Each Shows limits
-unfolding number countAt countFrom count room mayHave kindOf kindNumber kindIn flags present halfAt halves changes moves taken added ownCount
+unfolding number countAt countFrom count room mayHave kindOf kindNumber kindIn flags present message.markers maskWith halfAt halves changes moves taken added ownCount
 limits-right =
     let moved : List ℕ = block [] (once 10 1 2 ∷ []) [] 0 in
     all-mean limits
@@ -62,16 +66,82 @@ limits-right =
     and (nothing, moved ∷ [], refl, refl, refl)
     and tt)
 
-joined : (xs ys : List Case) → Each Shows xs → Each Shows ys → Each Shows (xs ++ ys)
-joined [] ys p q = q
-joined (x ∷ xs) ys p q = (p .0, joined xs ys (p .1) q)
+-- M-107: the markers. A message with both, one with a marker on its absent half, and one of another kind.
+both-markers : WellFormed (giving 49 1 10 3) → ⊥
+unfolding message.markers Marked
+both-markers w = ⊎-elim (λ e. omega arith) (λ m. omega (arith, m .0)) (w .begun .marked 1 (omega arith))
+
+on-absent : WellFormed (giving takesX 1 10 3) → ⊥
+unfolding message.markers Marked present flags
+on-absent w = ⊎-elim (λ e. omega arith) (λ m. differ (sym (m .2))) (w .begun .marked 0 (omega arith))
+
+on-others : (WellFormed (giving 18 1 10 3) → ⊥) × (WellFormed (giving 19 1 10 3) → ⊥)
+unfolding message.markers Marked kindIn kindOf kindNumber
+on-others = (
+  (λ w. ⊎-elim (λ e. omega arith) (λ m. omega (arith, ap kindNumber (m .1))) (w .begun .marked 1 (omega arith))),
+  (λ w. ⊎-elim (λ e. omega arith) (λ m. omega (arith, ap kindNumber (m .1))) (w .begun .marked 1 (omega arith))),
+)
+
+pub markers-right : Each Shows markers
+unfolding number countAt countFrom count room mayHave kindOf kindNumber kindIn flags present message.markers maskWith halfAt halves changes moves taken added ownCount letters digitsOf decimal pieceOf piecesOf entryText textOf countsFrom countsAt setFrom setOf digit reaches readDigits readNumber readCount readLetter readCounts readMark readRecord readMore readRecords parse
+markers-right =
+    all-mean markers
+    ((member 1 1 0 ∷ [], refl, refl)
+    and (member 2 1 0 ∷ [], refl, refl)
+    and (member 1 0 0 ∷ member 2 0 1 ∷ [], refl, refl)
+    and (nothing ∷ [], refl, refl)
+    and (member 0 1 0 ∷ [], refl, refl)
+    and (member 1 1 0, nothing ∷ [], refl, refl, refl)
+    and (nothing, member 1 1 0 ∷ [], refl, refl, refl)
+    and (refl, both-markers)
+    and (refl, on-absent)
+    and (refl, on-others .0)
+    and (refl, on-others .1)
+    and (refl, refl, refl)
+    and refl
+    and refl
+    and tt)
+
+pub firms-right : Each Shows firms
+unfolding number countAt mayHave
+firms-right =
+    all-mean firms
+    ((refl, refl, refl)
+    and (refl, refl, refl)
+    and (refl, refl, refl)
+    and (refl, refl, refl)
+    and (refl, refl, refl)
+    and (refl, refl, refl)
+    and (refl, refl, refl)
+    and (refl, refl, refl)
+    and (refl, refl, refl)
+    and (refl, refl, refl)
+    and (refl, refl, refl)
+    and (refl, refl, refl)
+    and (refl, refl, refl)
+    and (refl, refl, refl)
+    and (refl, refl, refl)
+    and (refl, refl, refl)
+    and (refl, refl, refl)
+    and (refl, refl, refl)
+    and refl
+    and refl
+    and refl
+    and refl
+    and tt)
+
+-- What two tables say, as one.
+with-next : (xs ys : List Case) → Each Shows xs → Each Shows ys → Each Shows (xs ++ ys)
+with-next [] ys p q = q
+with-next (x ∷ xs) ys p q = (p .0, with-next xs ys (p .1) q)
 
 -- "the proved table": every starred example holds.
 pub table : Each Shows cases
 table =
-    let last = joined appointments limits appointments-right limits-right in
-    let counted = joined examined (appointments ++ limits) examined-right last in
-    let later = joined chains (examined ++ (appointments ++ limits)) chains-right counted in
-    let wrong = joined places (chains ++ (examined ++ (appointments ++ limits))) places-right later in
-    joined masks (texts ++ (places ++ (chains ++ (examined ++ (appointments ++ limits))))) masks-right
-    (joined texts (places ++ (chains ++ (examined ++ (appointments ++ limits)))) texts-right wrong)
+    with-next masks _ masks-right
+    (with-next texts _ texts-right
+    (with-next places _ places-right
+    (with-next chains _ chains-right
+    (with-next examined _ examined-right
+    (with-next appointments _ appointments-right
+    (with-next limits _ limits-right (with-next markers firms markers-right firms-right)))))))

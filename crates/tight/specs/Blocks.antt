@@ -32,7 +32,7 @@ pub record Row : Type 0 where
   pub id : ℕ
   pub counts : List ℕ
 
--- What one statement with this mask gives: each of its letters counts 1.
+-- What one statement with this mask gives: each of its letters counts 1. The marker X is 256 in the mask, N 512.
 abbrev pub once : ℕ → ℕ → ℕ → Row
 once x y mask = record { key = x; id = y; counts = bits mask }
 
@@ -51,6 +51,19 @@ block ms ps fs n =
 
 -- ---- messages
 
+-- M-107: the kind byte of an M message with X, or with N, in its previous half, and in its new one.
+abbrev pub takesX : ℕ
+takesX = 65
+
+abbrev pub takesN : ℕ
+takesN = 129
+
+abbrev pub addsX : ℕ
+addsX = 17
+
+abbrev pub addsN : ℕ
+addsN = 33
+
 abbrev pub halfBytes : ℕ → ℕ → ℕ → List ℕ
 halfBytes x y mask = two x ++ (two y ++ (mask ∷ []))
 
@@ -65,7 +78,7 @@ withdrawing kind x y mask = kind ∷ 1 ∷ (halfBytes x y mask ++ zeros halfLeng
 abbrev pub moving : ℕ → List ℕ → List ℕ → List ℕ
 moving kind before after = kind ∷ 3 ∷ (before ++ after)
 
--- ---- the mill's own case: R on key 9 for id 1, in a block of 36 bytes
+-- ---- the mill's own case: R on key 9 for id 1, in a block of 40 bytes
 
 abbrev pub nothing : List ℕ
 nothing = block [] [] [] 1

@@ -1,6 +1,6 @@
--- 01, "Examples to hold it to": the starred ones, as one table, with some of M-101, M-102 and M-109. A case says what it says by the
--- promises of the calls.
-use Prim.Native.Nat.{ℕ, _-_, _≤_}
+-- 01, "Examples to hold it to": the starred ones, as one table, with some of M-101, M-102, M-107 and M-109. A case says what it says by
+-- the promises of the calls.
+use Prim.Native.Nat.{ℕ, suc, _+_, _-_, _≤_}
 use mathlib.Core.Path.{_≡_}
 use mathlib.Core.List.{List, [], _∷_, _++_}
 use lib.ListN.{length, drop}
@@ -11,7 +11,7 @@ use Rattle.index.specs.Block.{IsName, Sized, Good}
 use Rattle.index.specs.Message.{IsKind, kindOf}
 use Rattle.index.specs.Calls.{Message, WritesSet, ReadsSet}
 use Rattle.rights.specs.Questions.{Full}
-use Rattle.tight.specs.Blocks.{once, block, zeros, halfBytes, giving, moving, nothing, reads, give, withdraw}
+use Rattle.tight.specs.Blocks.{Row, once, block, zeros, takesX, addsX, halfBytes, giving, withdrawing, moving, nothing, reads, give, withdraw}
 
 pub data Case : Type 0 where
   -- on the block, the user holds these rights on the object, and so many M records are examined on the user's side and on the
@@ -19,6 +19,8 @@ pub data Case : Type 0 where
   rights : (block : List ℕ) (user object mask of-user of-object : ℕ) → Case
   -- on the block, the user holds these rights on every object, whatever the numbers of records examined
   everywhere : (block : List ℕ) (user mask : ℕ) → Case
+  -- on the block, the user holds these rights on the object, whatever the numbers of records examined
+  holds : (block : List ℕ) (user object mask : ℕ) → Case
   -- the set of the kind and key in the block has n records and is written so, and the text is read back
   text : (block : List ℕ) (kind key : ℕ) (text : List ℕ) (n : ℕ) → Case
   -- the text is refused with 9, and this is its place among texts of each kind
@@ -29,6 +31,8 @@ pub data Case : Type 0 where
   accepted : (block message after : List ℕ) → Case
   -- the message is refused with the number, and the block is as it was
   refused : (block message : List ℕ) (number : ℕ) → Case
+  -- the message is refused with 3, and the block is as it was
+  malformed : (block message : List ℕ) → Case
 
 -- On every good block, for every kind and key.
 abbrev pub Anywhere : (List ℕ → ℕ → ℕ → Type 0) → Type 0
@@ -37,6 +41,7 @@ Anywhere P = (b : List ℕ) (kind x : ℕ) → Sized b → Good b → IsKind kin
 abbrev pub Shows : Case → Type 0
 Shows (Case.rights b u o mask i j) = Full b u o allRights (0, mask, i, j)
 Shows (Case.everywhere b u mask) = (o : ℕ) → IsName o → (i : ℕ) × (j : ℕ) × Full b u o allRights (0, mask, i, j)
+Shows (Case.holds b u o mask) = (i : ℕ) × (j : ℕ) × Full b u o allRights (0, mask, i, j)
 Shows (Case.text b kind x t n) =
     ((out : List ℕ) → length t ≤ length out → WritesSet b kind x out (0, length t, t ++ drop (length t) out))
     × ReadsSet b kind x t (0, n, b)
@@ -45,6 +50,7 @@ Shows Case.empty =
     Anywhere (λ b kind x. (o : ℕ × ℕ × List ℕ) → ReadsSet b kind x [] o → (o .0 ≡ 0) × (o .1 ≡ 0))
 Shows (Case.accepted b m b′) = Message b m (0, b′)
 Shows (Case.refused b m n) = Message b m (n, b)
+Shows (Case.malformed b m) = Message b m (3, b)
 
 -- A place that is the same for all kinds, and one that is another for permissions.
 abbrev pub always : ℕ → Kind → ℕ
@@ -54,6 +60,12 @@ abbrev pub either : ℕ → ℕ → Kind → ℕ
 either n m Membership = n
 either n m Permission = m
 either n m Filter = n
+
+-- And one that is another for memberships.
+abbrev pub memberships : ℕ → ℕ → Kind → ℕ
+memberships n m Membership = n
+memberships n m Permission = m
+memberships n m Filter = m
 
 -- The block with one P record, as one statement with this mask leaves it.
 abbrev pub granted : ℕ → List ℕ
@@ -177,11 +189,118 @@ limits =
     -- "Count 65,535, message R to R: accepted. Another new R: 7."
     Case.accepted (reads 65535) (moving 2 (halfBytes 9 1 2) (halfBytes 9 1 2)) (reads 65535)
     ∷ Case.refused (reads 65535) give 7
-    -- "Block of 36 bytes (room 1) holding one record, a message moving its only statement to another key: accepted. A second
-    -- record: 8."
+    -- "holding one record, a message moving its only statement to another key: accepted. A second record: 8." M-107: the block of 36
+    -- bytes becomes one of 40.
     ∷ Case.accepted (reads 1) (moving 2 (halfBytes 9 1 2) (halfBytes 10 1 2)) (block [] (once 10 1 2 ∷ []) [] 0)
     ∷ Case.refused (reads 1) (giving 2 10 1 2) 8 ∷ []
 
--- All of them, in 01's order, with what M-101, M-102 and M-109 add.
+-- ---- M-107, "Exclusive groups"
+
+-- The set of M records with the key 7: id 3 with M, R and N once and X twice. Its text is `3;MRX2N`.
+abbrev pub markedRecord : List ℕ
+markedRecord = block (record { key = 7; id = 3; counts = 1 ∷ 1 ∷ zeros 6 ++ (2 ∷ 1 ∷ []) } ∷ []) [] [] 0
+
+--        3    ;    M    R    X    2    N
+abbrev pub markedText : List ℕ
+markedText = 51 ∷ 59 ∷ 77 ∷ 82 ∷ 88 ∷ 50 ∷ 78 ∷ []
+
+-- One M record, 1→10, and room for no other: M and R count n, X and N so much.
+abbrev pub member : ℕ → ℕ → ℕ → List ℕ
+member n x y = block (record { key = 1; id = 10; counts = n ∷ n ∷ zeros 6 ++ (x ∷ y ∷ []) } ∷ []) [] [] 0
+
+-- A membership with M and R and the marker X is given; it gets N in place of X, the previous half with bit 6 and the new one with bit 5.
+abbrev pub giveX : List ℕ
+giveX = giving addsX 1 10 3
+
+abbrev pub fromXtoN : List ℕ
+fromXtoN = moving (takesX + 32) (halfBytes 1 10 3) (halfBytes 1 10 3)
+
+abbrev pub markers : List Case
+markers =
+    -- "Markers are taken and added with the letters": M and R with X, the same again without it, and from X to N.
+    Case.accepted nothing giveX (member 1 1 0)
+    ∷ Case.accepted (member 1 1 0) (giving 1 1 10 3) (member 2 1 0)
+    ∷ Case.accepted (member 2 1 0) fromXtoN (member 2 0 1)
+    -- What is taken is what is quoted: without its marker the statement leaves a record with a marker count alone.
+    ∷ Case.accepted (member 1 1 0) (withdrawing takesX 1 10 3) nothing
+    ∷ Case.accepted (member 1 1 0) (withdrawing 1 1 10 3) (member 0 1 0)
+    -- "a marker with nothing to take is 6, at 65,535 is 7"
+    ∷ Case.refused (member 1 0 1) (withdrawing takesX 1 10 3) 6
+    ∷ Case.refused (member 1 65535 0) giveX 7
+    -- "both markers in one half, a marker on an absent half or on kinds 2 and 3 is 3"
+    ∷ Case.malformed nothing (giving 49 1 10 3)
+    ∷ Case.malformed nothing (giving takesX 1 10 3)
+    ∷ Case.malformed nothing (giving 18 1 10 3)
+    ∷ Case.malformed nothing (giving 19 1 10 3)
+    -- "In text X and N follow the letters; P and F records have neither".
+    ∷ Case.text markedRecord 1 7 markedText 1
+    ∷ Case.wrong (51 ∷ 59 ∷ 88 ∷ 77 ∷ []) (memberships 3 2)
+    ∷ Case.wrong (51 ∷ 59 ∷ 77 ∷ 78 ∷ 88 ∷ []) (memberships 4 3) ∷ []
+
+-- Two firms. 1 is of the one, by the group 10, and 2 of the other, by the group 20; 3 is of neither. 31 is in the one firm's group, 32 in the
+-- other's, 33 in the neutral group 40, 34 in none. All three users may do everything on every object, but for their firms.
+abbrev pub everyone : List Row
+everyone = once 0 1 15 ∷ once 0 2 15 ∷ once 0 3 15 ∷ []
+
+abbrev pub objects : List Row
+objects = once 31 10 15 ∷ once 32 20 15 ∷ once 33 40 15 ∷ []
+
+abbrev pub twoFirms : List ℕ
+twoFirms = block (once 1 10 271 ∷ once 2 20 271 ∷ objects) everyone [] 0
+
+-- The first user's M records are these, and the objects are as before.
+abbrev pub firm : List Row → List ℕ
+firm own = block (own ++ objects) everyone [] 0
+
+-- A chain of n records from x on, R each, the last with X too.
+abbrev pub chain : ℕ → ℕ → List Row
+chain x ℕ.zero = []
+chain x (suc ℕ.zero) = once x (x + 1) 258 ∷ []
+chain x (suc (suc n)) = once x (x + 1) 2 ∷ chain (x + 1) (suc n)
+
+-- The user 100 has such a chain before her, and 99 is in the group 98.
+abbrev pub far : ℕ → List ℕ
+far n = block (once 99 98 2 ∷ chain 100 n) (once 0 100 2 ∷ []) [] 0
+
+-- The object 100 has it before it, and its end is the group of the user 1.
+abbrev pub deep : ℕ → List ℕ
+deep n = block (once 1 (100 + n) 258 ∷ chain 100 n) (once 0 1 2 ∷ []) [] 0
+
+abbrev pub firms : List Case
+firms =
+    -- "A bound user holds rights only on objects in no group at all, or from which a chain of 0 to 32 records, masks and markers
+    -- disregarded, reaches one of her groups."
+    Case.rights twoFirms 1 31 15 1 1
+    ∷ Case.rights twoFirms 1 32 0 1 1
+    ∷ Case.rights twoFirms 1 33 0 1 1
+    ∷ Case.rights twoFirms 1 34 15 1 0
+    ∷ Case.rights twoFirms 2 31 0 1 1
+    ∷ Case.rights twoFirms 2 32 15 1 1
+    ∷ Case.rights twoFirms 3 31 15 0 1
+    -- "counts N in none of them": a group in between with N, and the same without it; N on the record that has X.
+    ∷ Case.rights (firm (once 1 5 527 ∷ once 5 10 271 ∷ [])) 1 32 15 2 1
+    ∷ Case.rights (firm (once 1 5 15 ∷ once 5 10 271 ∷ [])) 1 32 0 2 1
+    ∷ Case.rights (firm (once 1 10 783 ∷ [])) 1 32 15 1 1
+    -- "X in the last": a group behind hers is not hers, so 33 stays shut, and 31 open.
+    ∷ Case.rights (firm (once 1 10 271 ∷ once 10 40 15 ∷ [])) 1 33 0 2 1
+    ∷ Case.rights (firm (once 1 10 271 ∷ once 10 40 15 ∷ [])) 1 31 15 2 2
+    -- "masks disregarded": her group binds where no right is carried to it, and the object's chain needs none either.
+    ∷ Case.rights (firm (once 1 5 1 ∷ once 5 10 258 ∷ [])) 1 32 0 2 1
+    ∷ Case.rights (block (once 1 10 271 ∷ once 6 10 2 ∷ once 31 6 1 ∷ []) everyone [] 0) 1 31 15 1 2
+    -- "a chain of 0" records: the object itself is her group, though it is in another group too.
+    ∷ Case.rights (firm (once 1 10 271 ∷ once 10 40 15 ∷ [])) 1 10 15 2 1
+    -- "one with marker counts alone gives no chain of any kind and no first-level group", on the user's side, and on the object's: 32 is
+    -- not in 10, and 35 is in no group, so that 20's filter is no filter of 35. As an M record it is examined.
+    ∷ Case.rights (firm (once 1 10 256 ∷ [])) 1 32 15 1 1
+    ∷ Case.rights (block (once 1 10 271 ∷ once 32 10 256 ∷ once 32 20 15 ∷ []) everyone [] 0) 1 32 0 1 2
+    ∷ Case.rights (block (once 1 10 271 ∷ once 35 20 256 ∷ []) everyone (once 20 7 2 ∷ []) 0) 1 35 15 1 1
+    -- "a chain of 1 to 32 records": 99's group is not hers where she is bound by the 32nd, and no matter where it is the 33rd.
+    ∷ Case.holds (far 32) 100 99 0
+    ∷ Case.holds (far 33) 100 99 2
+    -- "a chain of 0 to 32 records": from the object to her group.
+    ∷ Case.holds (deep 32) 1 100 2
+    ∷ Case.holds (deep 33) 1 100 0 ∷ []
+
+-- All of them, in 01's order, with what M-101, M-102, M-107 and M-109 add.
 abbrev pub cases : List Case
-cases = masks ++ (texts ++ (places ++ (chains ++ (examined ++ (appointments ++ limits)))))
+cases = masks ++ (texts ++ (places ++ (chains ++ (examined ++ (appointments ++ (limits ++ (markers ++ firms)))))))

@@ -1,10 +1,11 @@
 -- A program for the six calls, and for the six that M-106 adds: any functions at all. It meets the promises when each of its answers
--- does.
-use Prim.Native.Nat.{ℕ, _<_}
+-- does. The wrong ones that 01, M-106 and M-107 turn away.
+use Prim.Native.Nat.{ℕ, _<_, _≤_}
 use mathlib.Core.Path.{_≡_}
 use mathlib.Core.List.{List, [], _∷_}
 use Rattle.index.specs.declared.Kind.{Kind}
-use Rattle.index.specs.Letters.{letterCount}
+use Rattle.index.specs.declared.Kind.the-variants.{Membership}
+use Rattle.index.specs.Letters.{letterCount, markerX}
 use Rattle.index.specs.Block.{records, count}
 use Rattle.index.specs.Message.{previous}
 use Rattle.index.specs.Calls.{Makes, Message, WritesSet, ReadsSet}
@@ -114,6 +115,23 @@ pub data TakesAny (p : Program) : Type 0 where
   reads : ((b d : List ℕ) (kind x : ℕ) (text : List ℕ) → p .read-by b d kind x text .0 ≡ 13 → ⊥) → TakesAny p
   full : ((b d : List ℕ) (u o request : ℕ) → p .rights-by b d u o request .0 ≡ 13 → ⊥) → TakesAny p
   short : ((b d : List ℕ) (u o request : ℕ) → p .may-by b d u o request .0 ≡ 13 → ⊥) → TakesAny p
+
+-- M-107: one that pays no heed to markers. On two blocks in which every letter counts the same, markers aside, it gives the same rights, or
+-- the same short answer.
+abbrev pub SameLetters : List ℕ → List ℕ → Type 0
+SameLetters b b′ = (kind : Kind) (x y k : ℕ) → k < markerX → count b kind x y k ≡ count b′ kind x y k
+
+pub data IgnoresMarkers (p : Program) : Type 0 where
+  full : ((b b′ : List ℕ) → SameLetters b b′ → (u o request : ℕ) → p .rights b u o request .1 ≡ p .rights b′ u o request .1)
+      → IgnoresMarkers p
+  short : ((b b′ : List ℕ) → SameLetters b b′ → (u o request : ℕ) → p .may b u o request .1 ≡ p .may b′ u o request .1)
+      → IgnoresMarkers p
+
+-- M-107: "Markers are taken and added with the letters": one whose messages leave the count of every marker as it was.
+abbrev pub KeepsMarkers : Program → Type 0
+KeepsMarkers p =
+    (b m : List ℕ) (x y k : ℕ) → markerX ≤ k → k < letterCount
+    → count (p .message b m .1) Membership x y k ≡ count b Membership x y k
 
 -- "one that works at the first message and then only says accepted": a block with a record in it is past its first message.
 abbrev pub OnlyTheFirst : Program → Type 0

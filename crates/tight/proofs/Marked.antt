@@ -1,0 +1,82 @@
+-- M-107: two programs that are turned away, one that pays no heed to markers, and one that keeps them as they were.
+use Prim.Native.Nat.{ℕ, _<_}
+use mathlib.Core.Path.{_≡_, refl, ap}
+use mathlib.Core.Bool.{Bool, true}
+use mathlib.Core.List.{List, [], _∷_}
+use native.Mathlib.Omega.{arith}
+use borrow.Author.Tests.{eqb-true}
+use lib.Dec.{eqb}
+use Rattle.index.specs.declared.Kind.{Kind}
+use Rattle.index.specs.declared.Kind.the-variants.{Membership, Permission, Filter}
+use Rattle.index.specs.Letters.{markerX, mayHave}
+use Rattle.index.specs.Block.{number, countAt, countFrom, count}
+use Rattle.index.proofs.laws.Firsts.{first-all}
+use Rattle.index.proofs.laws.Tests.{all, all-at}
+use Rattle.index.proofs.laws.block.Masks.{in-zero, in-all}
+use Rattle.rights.specs.Questions.{questionNeeds, Limited, HoldsAll, Full, Short}
+use Rattle.rights.proofs.laws.questions.OneAnswer.{accepted-full}
+use Rattle.tight.specs.Blocks.{once, block, nothing}
+use Rattle.tight.specs.Examples.{giveX}
+use Rattle.tight.specs.Programs.{Program, Meets, SameLetters, IgnoresMarkers, KeepsMarkers}
+use Rattle.tight.proofs.Mill.{x-given}
+use Rattle.tight.proofs.Programs.{does, answers, says}
+use Rattle.tight.proofs.RightsTest.{rights-test}
+
+-- 1 is in the group 10 and 32 in another; with X, 10 is hers.
+abbrev firm : ℕ → List ℕ
+firm mask = block (once 1 10 mask ∷ once 32 20 15 ∷ []) (once 0 1 15 ∷ []) [] 0
+
+shut : Full (firm 271) 1 32 15 (0, 0, 1, 1)
+unfolding number countAt mayHave
+shut = rights-test (firm 271) 1 0 32 1 1 (refl, refl, refl)
+
+unbound : Full (firm 15) 1 32 15 (0, 15, 1, 1)
+unfolding number countAt mayHave
+unbound = rights-test (firm 15) 1 15 32 1 1 (refl, refl, refl)
+
+-- The letters count the same in both, record by record.
+abbrev sameTest : ℕ → ℕ → Bool
+sameTest i k = eqb (countAt (firm 271) i k) (countAt (firm 15) i k)
+
+three : (all (sameTest 0) 0 markerX ≡ true) × (all (sameTest 1) 0 markerX ≡ true) × (all (sameTest 2) 0 markerX ≡ true)
+unfolding number countAt
+three = (refl, refl, refl)
+
+same-at : (i : ℕ) → all (sameTest i) 0 markerX ≡ true → (k : ℕ) → k < markerX → countAt (firm 271) i k ≡ countAt (firm 15) i k
+same-at i e k l = eqb-true _ _ (all-at (sameTest i) 0 markerX e k (omega arith) l)
+
+same-letters : SameLetters (firm 271) (firm 15)
+unfolding number countFrom count
+same-letters Membership x y k l = rw (same-at 0 (three .0) k l, same-at 1 (three .1) k l)
+same-letters Permission x y k l = rw (same-at 2 (three .2) k l)
+same-letters Filter x y k l = refl
+
+-- The short question for all four rights, on both.
+no-answer : Short (firm 271) 1 32 15 (0, 0)
+unfolding Short Limited HoldsAll
+no-answer =
+    let q = accepted-full (firm 271) 1 32 15 0 1 1 shut in
+    first-all _ _ (0, 0) (questionNeeds (firm 271) 1 32 15) (q .0)
+    (refl, omega arith, ((λ e. absurd (omega arith)), (λ all. absurd (in-zero 0 (q .1 .1 .1 0 (omega arith) .1 (all 0 (omega arith) refl, refl))))))
+
+yes-answer : Short (firm 15) 1 32 15 (0, 1)
+unfolding Short Limited HoldsAll
+yes-answer =
+    let q = accepted-full (firm 15) 1 32 15 15 1 1 unbound in
+    first-all _ _ (0, 1) (questionNeeds (firm 15) 1 32 15) (q .0)
+    (refl, omega arith, ((λ e k l i. q .1 .1 .1 k l .0 (in-all k l) .0), (λ all. refl)))
+
+module _ (p : Program) (meets : Meets p) where
+  pub heeds-markers : IgnoresMarkers p → ⊥
+  heeds-markers (IgnoresMarkers.full same) =
+      let e = same (firm 271) (firm 15) same-letters 1 32 15 in
+      omega (arith, ap (λ (a : ℕ × ℕ × ℕ × ℕ). a .1) (answers p meets shut), ap (λ (a : ℕ × ℕ × ℕ × ℕ). a .1) (answers p meets unbound))
+  heeds-markers (IgnoresMarkers.short same) =
+      let e = same (firm 271) (firm 15) same-letters 1 32 15 in
+      omega (arith, ap (λ (a : ℕ × ℕ). a .1) (says p meets no-answer), ap (λ (a : ℕ × ℕ). a .1) (says p meets yes-answer))
+
+  pub takes-markers : KeepsMarkers p → ⊥
+  unfolding number countAt countFrom count
+  takes-markers keeps =
+      let e = rw (does p meets x-given) at (keeps nothing giveX 1 10 markerX (omega arith) (omega arith)) in
+      omega (arith, e)
