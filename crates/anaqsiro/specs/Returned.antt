@@ -74,7 +74,7 @@ ReadByReturns b d kind x text r b′ d′ = Returned (λ n v. ReadBy b d kind x 
 
 -- ---- a block as it stands, record by record: only the first of these four calls tests it
 
--- 1: "block length not 16 to 40,976"; 2: "block not good".
+-- 1: "block length not 16 to" 49,168, since M-107; 2: "block not good".
 unfoldable pub TestedReturns : List ℕ → ℕ → Type 0
 TestedReturns b r = Returned (λ n v. (v ≡ 0) × Answers (blockNeeds b) n) r
 

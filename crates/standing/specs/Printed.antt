@@ -74,7 +74,7 @@ blockLines b = setLines b Membership 0 nameCount ++ setLines b Permission 0 name
 
 -- All that is printed for the input.
 pub record Prints (input out : List ℕ) : Type 0 where
-  -- "into an empty block of 40,976 bytes"
+  -- "into an empty block of" so many "bytes": M-107: "a block may have 49,168 bytes"
   pub before : List ℕ
   pub block : List ℕ
   pub long : length before ≡ greatestLength

@@ -2,8 +2,8 @@
 // every set that is not empty.
 use index::GREATEST;
 use index::Kind;
-use index::LETTER_COUNT;
 use index::MESSAGE;
+use index::MOST_LETTERS;
 use index::NAMES;
 use index::ROOM;
 use index::Wrote;
@@ -39,7 +39,7 @@ const LINE: usize = 64;
 const DIGITS: usize = 5;
 
 // Room for the text of a record: its id, `;`, each letter with its count, and the `;` before the next.
-const RECORD_TEXT: usize = DIGITS + 1 + (1 + DIGITS) * LETTER_COUNT + 1;
+const RECORD_TEXT: usize = DIGITS + 1 + (1 + DIGITS) * MOST_LETTERS + 1;
 
 // Room for the text of a set.
 const TEXT: usize = RECORD_TEXT * ROOM;
