@@ -42,8 +42,9 @@ static void test_version(void) {
 /* The names have the numbers of the rules. */
 static void test_lengths(void) {
     same("the shortest block", ANAQSIRO_BLOCK_MIN, 16);
-    same("a record", ANAQSIRO_RECORD, 20);
-    same("the longest block", ANAQSIRO_BLOCK_MAX, 40976);
+    same("a record", ANAQSIRO_RECORD, 24);
+    same("a block with room for one", ANAQSIRO_BLOCK_MIN + ANAQSIRO_RECORD, 40);
+    same("the longest block", ANAQSIRO_BLOCK_MAX, 49168);
     same("a message", ANAQSIRO_MESSAGE, 12);
     same("the longest text", ANAQSIRO_TEXT_MAX, 54185);
     same("a part", ANAQSIRO_DIRECTORY_PART, 1025);
@@ -62,7 +63,10 @@ static void test_letters(void) {
     same_words("a greater one", anaqsiro_put_letters(word, masks + ANAQSIRO_READ), "R");
     same("UMp", anaqsiro_mask("UMp"), ANAQSIRO_CREATE | ANAQSIRO_UPDATE | ANAQSIRO_NO_DELETE);
     same("MQR", anaqsiro_mask("MQR"), 0);
+    same("MRUX", anaqsiro_mask("MRUX"), 7 + ANAQSIRO_X);
+    same("N", anaqsiro_mask("N"), ANAQSIRO_N);
     same("letter r", anaqsiro_letter_number('r'), 5);
+    same("letter N", anaqsiro_letter_number('N'), 9);
     same("letter x", anaqsiro_letter_number('x'), ANAQSIRO_LETTERS);
     same("letter 0", anaqsiro_letter_number(0), ANAQSIRO_LETTERS);
 }
@@ -102,6 +106,35 @@ static void test_bytes(void) {
     same("a previous half", memcmp(message, last, sizeof last) == 0, 1);
 }
 
+/* The half is what the message was made of. */
+static void same_half(const char *what, const uint8_t *message, size_t at, const struct anaqsiro_half *wanted) {
+    const struct anaqsiro_half got = anaqsiro_get_half(message, at);
+    same(what, got.key, wanted->key);
+    same(what, got.id, wanted->id);
+    same(what, got.mask, wanted->mask);
+}
+
+/* Each marker in each half, and none: the byte of the kind, and what is read from the message. */
+static void test_markers(void) {
+    static const uint64_t masks[] = {5, 5 + ANAQSIRO_X, 5 + ANAQSIRO_N, 5 + ANAQSIRO_X + ANAQSIRO_N};
+    static const unsigned previous_bits[] = {0, ANAQSIRO_X_PREVIOUS, ANAQSIRO_N_PREVIOUS, 0xC0};
+    static const unsigned new_bits[] = {0, ANAQSIRO_X_NEW, ANAQSIRO_N_NEW, 0x30};
+    const struct anaqsiro_half absent = {0, 0, 0};
+    uint8_t message[ANAQSIRO_MESSAGE];
+    for (unsigned pair = 0; pair < 16; pair++) {
+        const struct anaqsiro_half before = {0x102, 0x304, masks[pair / 4]}, now = {6, 7, masks[pair % 4]};
+        anaqsiro_put_message(message, ANAQSIRO_MEMBERSHIP, &before, &now);
+        same("bits of both", message[0], 1u + previous_bits[pair / 4] + new_bits[pair % 4]);
+        same("mask bytes", message[6] + 256u * message[11], 5 + 256 * 5);
+        same("kind", anaqsiro_get_kind(message), ANAQSIRO_MEMBERSHIP);
+        same_half("previous half", message, ANAQSIRO_PREVIOUS_AT, &before);
+        same_half("new half", message, ANAQSIRO_NEW_AT, &now);
+        anaqsiro_put_message(message, ANAQSIRO_FILTER, NULL, &now);
+        same("bits of one", message[0], 3u + new_bits[pair % 4]);
+        same_half("no previous half", message, ANAQSIRO_PREVIOUS_AT, &absent);
+    }
+}
+
 /* The number that an empty block gives for a message with this new half. */
 static uint32_t number_of(uint64_t kind, uint64_t key, uint64_t id, uint64_t mask) {
     const struct anaqsiro_half half = {key, id, mask};
@@ -118,11 +151,24 @@ static void test_wide_numbers(void) {
         const uint32_t name = wide[i] < ANAQSIRO_NAMES ? ANAQSIRO_ACCEPTED : ANAQSIRO_NAME;
         same("wide key", number_of(ANAQSIRO_PERMISSION, wide[i], 1, 1), name);
         same("wide id", number_of(ANAQSIRO_PERMISSION, 1, wide[i], 1), name);
-        same("wide mask", number_of(ANAQSIRO_PERMISSION, 1, 1, wide[i]), ANAQSIRO_MASK);
+        same("wide mask", number_of(ANAQSIRO_PERMISSION, 1, 1, wide[i] << 2), ANAQSIRO_MASK);
         same("wide kind", number_of(wide[i], 1, 1, 1), ANAQSIRO_FORM);
     }
     same("no letters", number_of(ANAQSIRO_PERMISSION, 1, 1, anaqsiro_mask("Q")), ANAQSIRO_MASK);
-    same("all letters", number_of(ANAQSIRO_PERMISSION, 1, 1, anaqsiro_mask(ANAQSIRO_SPELLED)), ANAQSIRO_ACCEPTED);
+    same("all letters", number_of(ANAQSIRO_PERMISSION, 1, 1, anaqsiro_mask("MRUPmrup")), ANAQSIRO_ACCEPTED);
+    same("a kind with a marker", number_of(ANAQSIRO_MEMBERSHIP + ANAQSIRO_X_NEW, 1, 1, 1), ANAQSIRO_FORM);
+}
+
+/* What a marker is refused with. */
+static void test_wrong_markers(void) {
+    for (unsigned marker = ANAQSIRO_X; marker <= ANAQSIRO_N; marker *= 2) {
+        same("a marker", number_of(ANAQSIRO_MEMBERSHIP, 1, 1, ANAQSIRO_ALL + marker), ANAQSIRO_ACCEPTED);
+        same("no letters", number_of(ANAQSIRO_MEMBERSHIP, 1, 1, marker), ANAQSIRO_MASK);
+        same("a denial", number_of(ANAQSIRO_MEMBERSHIP, 1, 1, ANAQSIRO_NO_READ + marker), ANAQSIRO_MASK);
+        same("of a permission", number_of(ANAQSIRO_PERMISSION, 1, 1, ANAQSIRO_ALL + marker), ANAQSIRO_FORM);
+        same("of a filter", number_of(ANAQSIRO_FILTER, 1, 1, ANAQSIRO_ALL + marker), ANAQSIRO_FORM);
+    }
+    same("both", number_of(ANAQSIRO_MEMBERSHIP, 1, 1, anaqsiro_mask("RXN")), ANAQSIRO_FORM);
 }
 
 /* The longest set, a record for each name and each letter at a count of five digits, is read from its text and written out. */
@@ -133,7 +179,7 @@ static void test_longest_text(void) {
     size_t length = 0;
     for (unsigned id = 0; id < ANAQSIRO_NAMES; id++) {
         length += (size_t)snprintf(text + length, sizeof text - length, "%s%u;", id == 0 ? "" : ";", id);
-        for (unsigned k = 0; k < ANAQSIRO_LETTERS; k++) {
+        for (unsigned k = 0; k < ANAQSIRO_LETTERS_OF_PERMISSION; k++) {
             length += (size_t)snprintf(text + length, sizeof text - length, "%c%u", ANAQSIRO_SPELLED[k], ANAQSIRO_COUNT_MAX);
         }
     }
@@ -155,7 +201,7 @@ struct wrong {
 static const struct wrong wrong[] = {
     {";", 0, 0},       {"03;M", 1, 1},    {"3;", 2, 2},      {"1024;M", 3, 3},   {"3;RM", 3, 3}, {"3;M0", 3, 3},
     {"3;M1", 4, 4},    {"3;M;", 4, 4},    {"1;M;1;M", 5, 5}, {"399;M;3", 6, 6},  {"3;mM", 2, 3}, {"3;M;4;Mp1", 7, 9},
-    {"1023;M;", 6, 6}, {"3;M65536", 7, 7},
+    {"1023;M;", 6, 6}, {"3;M65536", 7, 7}, {"3;NX", 3, 2},  {"3;RX1", 5, 3},    {"3;XM", 3, 2}, {"3;M;4;N0", 7, 6},
 };
 
 /* What a text that is refused with 9 comes back with: that number and the place, whatever the room. The block is as it was. */
@@ -233,7 +279,7 @@ static void test_examined(void) {
 /* The calls that go through a block, on a good block of three records, on numbers past it, and on one that is not good. */
 static void test_records(void) {
     uint8_t block[ANAQSIRO_BLOCK_MIN + ROOM * ANAQSIRO_RECORD];
-    static const uint8_t two[] = "3;MRU;1023;MRU2p65535", one[] = "20;RU";
+    static const uint8_t two[] = "3;MRU;1023;MRU2p65535", one[] = "20;RUX3";
     const uint64_t letter_u = anaqsiro_letter_number('U');
     anaqsiro_make(block, sizeof block);
     same("two", anaqsiro_read(block, sizeof block, ANAQSIRO_PERMISSION, KEY, two, sizeof two - 1), 2);
@@ -260,6 +306,8 @@ static void test_records(void) {
     same("record 2: U", anaqsiro_count(block, sizeof block, 2, letter_u), 2);
     same("record 2: p", anaqsiro_count(block, sizeof block, 2, 7), ANAQSIRO_COUNT_MAX);
     same("record 2: m", anaqsiro_count(block, sizeof block, 2, 4), 0);
+    same("record 0: X", anaqsiro_count(block, sizeof block, 0, anaqsiro_letter_number('X')), 3);
+    same("record 0: N", anaqsiro_count(block, sizeof block, 0, anaqsiro_letter_number('N')), 0);
     same("no letter", anaqsiro_count(block, sizeof block, 1, ANAQSIRO_LETTERS), 0);
     same("a count past the bytes", anaqsiro_count(block, sizeof block, ROOM, 0), 0);
 
@@ -435,7 +483,9 @@ int main(void) {
     test_letters();
     test_refusals();
     test_bytes();
+    test_markers();
     test_wide_numbers();
+    test_wrong_markers();
     test_longest_text();
     test_places();
     test_parts();

@@ -13,9 +13,9 @@ enum { PLANNER = 1, PLANNERS = 2, REQUESTS = 9 };
 /* A statement. Its messages are numbered from 1 on. */
 struct statement {
     char label[LABEL];
-    uint32_t taken;              /* the number of its last message that was taken */
-    uint8_t kind;                /* the kind of that message: a statement keeps one kind */
-    uint8_t left[ANAQSIRO_HALF]; /* the new half of that message: zero bytes where nothing is left */
+    uint32_t taken;            /* the number of its last message that was taken */
+    uint32_t kind;             /* the kind of that message: a statement keeps one kind */
+    struct anaqsiro_half left; /* the new half of that message, with its marker: zeros where nothing is left */
 };
 
 /* A message that waits for its turn. A place with no statement is free. */
@@ -60,18 +60,19 @@ static void say(const char *label, uint32_t sequence, const char *what) {
     printf("%s, message %u: %s\n", label, sequence, what);
 }
 
-/* Whether a message is of its statement's kind, and its previous half is what the statement left. */
+/* Whether a message is of its statement's kind, and its previous half is what the statement left, the marker too. */
 static int follows(const uint8_t *message, const struct statement *statement) {
-    const int same_kind = statement->taken == 0 || message[0] == statement->kind;
-    return same_kind && memcmp(message + ANAQSIRO_PREVIOUS_AT, statement->left, ANAQSIRO_HALF) == 0;
+    const struct anaqsiro_half quoted = anaqsiro_get_half(message, ANAQSIRO_PREVIOUS_AT), *left = &statement->left;
+    const int same_kind = statement->taken == 0 || anaqsiro_get_kind(message) == statement->kind;
+    return same_kind && quoted.key == left->key && quoted.id == left->id && quoted.mask == left->mask;
 }
 
 /* Enters what a statement left with a message. The message's place is free then. */
 static void enter(struct waiting *taken) {
     struct statement *statement = taken->statement;
     statement->taken = taken->sequence;
-    statement->kind = taken->message[0];
-    memcpy(statement->left, taken->message + ANAQSIRO_NEW_AT, ANAQSIRO_HALF);
+    statement->kind = anaqsiro_get_kind(taken->message);
+    statement->left = anaqsiro_get_half(taken->message, ANAQSIRO_NEW_AT);
     memset(taken, 0, sizeof *taken);
 }
 

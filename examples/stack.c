@@ -1,8 +1,8 @@
 /* How many bytes of stack each call takes: it is made on a stack of our own that was painted beforehand, and the deepest byte
  * that lost its paint is looked for. The blocks are such that each call goes as deep as it can: a chain of 40 records for the
- * questions, a count of five digits for the text, for the message one that inserts and one that puts a half back. The calls by
- * a directory are made on the same blocks. It fails where a call takes more than LIMIT, or gives another number than it is to:
- * a call that is refused too early takes little. */
+ * questions, with X in the one that a chain may end with, a count of five digits for the text, for the message one that inserts
+ * and one that puts a half back. The calls by a directory are made on the same blocks. It fails where a call takes more than
+ * LIMIT, or gives another number than it is to: a call that is refused too early takes little. */
 #define _GNU_SOURCE
 #include "anaqsiro.h"
 
@@ -12,12 +12,13 @@
 
 #define PAINT 0xA5u
 #define CHAIN 40u
+#define LAST 32u
 #define LIMIT (24u * 1024u)
 
 enum { KEY = 900, FAR = 1000 };
 
 static uint8_t stack[1u << 18];
-static uint8_t block[ANAQSIRO_BLOCK_MIN + (CHAIN + 3) * ANAQSIRO_RECORD];
+static uint8_t block[ANAQSIRO_BLOCK_MIN + (CHAIN + 4) * ANAQSIRO_RECORD];
 static uint16_t directory[ANAQSIRO_DIRECTORY_LENGTH];
 static uint8_t out[4096];
 static const uint8_t text[] = "1;M65535R2;7;MRUPmrup65535";
@@ -125,12 +126,13 @@ static const struct named others[] = {
     {"anaqsiro_record", call_record},       {"anaqsiro_count", call_count},   {"anaqsiro_make", call_make},
 };
 
-/* Makes the block a chain of records, and its directory. */
+/* Makes the block a chain of records with a grant to its first name on itself, and its directory. She is bound, and let in. */
 static void make_chain(void) {
     anaqsiro_make(block, sizeof block);
     for (unsigned name = 1; name <= CHAIN; name++) {
-        add(ANAQSIRO_MEMBERSHIP, name, name + 1, ANAQSIRO_ALL);
+        add(ANAQSIRO_MEMBERSHIP, name, name + 1, name == LAST ? ANAQSIRO_ALL | ANAQSIRO_X : ANAQSIRO_ALL);
     }
+    add(ANAQSIRO_PERMISSION, 1, 1, ANAQSIRO_ALL);
     call_directory();
 }
 

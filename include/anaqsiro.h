@@ -16,6 +16,8 @@
  *   gives, whose value may be a place.
  * - DENIALS DO NOT REACH ACROSS RECORDS. "No read" takes read out of the one permission record that it stands in; another one
  *   may still give it, to a group of the same user or on a group of the same object.
+ * - A BLOCK OF 0.4 OR BEFORE IS NOT ONE OF 0.5. Its records have 20 bytes and these 24. It is refused with 2, unless it has no
+ *   record. Take it over by the texts of its sets.
  * - A CHANGE WITHOUT THE DIRECTORY LEAVES IT BEHIND. Who keeps one changes the block by anaqsiro_message_by and
  *   anaqsiro_read_by, or makes it again after other changes. Where such a change left some key with more or fewer records than
  *   it had, calls by the directory are refused with 13 until it is made again.
@@ -39,18 +41,20 @@ extern "C" {
 /* The version of this header and its archive. The block's format is part of it: as long as the first two numbers are the same,
  * a block, a message or a text of one version is good for the other and means the same there, and every call is made and
  * answers as before. Where any of this changes, the second number rises; where something is only added, the third. */
-#define ANAQSIRO_VERSION "0.4.1"
+#define ANAQSIRO_VERSION "0.5.0"
 #define ANAQSIRO_VERSION_MAJOR 0
-#define ANAQSIRO_VERSION_MINOR 4
-#define ANAQSIRO_VERSION_PATCH 1
+#define ANAQSIRO_VERSION_MINOR 5
+#define ANAQSIRO_VERSION_PATCH 0
 
 /* ---- numbers of the rules */
 
 /* Names of users, groups and objects are below this number; 0 is the group of all resources. */
 #define ANAQSIRO_NAMES 1024u
 
-/* A record has a count for each letter, and no count is above this one. */
-#define ANAQSIRO_LETTERS 8u
+/* A record has a count for each letter, and no count is above this one. The last two letters are markers, which memberships alone
+ * may have; permissions may have all letters before them, and so many. */
+#define ANAQSIRO_LETTERS 10u
+#define ANAQSIRO_LETTERS_OF_PERMISSION 8u
 #define ANAQSIRO_COUNT_MAX 65535u
 
 /* A block is this long at least and at most. Each record, of a key, an id and the counts, 16 bits each, takes so many bytes of
@@ -65,7 +69,14 @@ extern "C" {
 #define ANAQSIRO_EXAMINED_MAX (4u * ANAQSIRO_ROOM_MAX)
 
 /* A message: kind, flags, then the previous half at the first of these places and the new one at the second. A half is key, id
- * (16 bits each, low byte first) and mask; an absent half is zero bytes. anaqsiro_put_message writes one. */
+ * (16 bits each, low byte first) and mask; an absent half is zero bytes. The byte of the kind has the kind in its low four bits
+ * and above it a bit for each marker of each half. anaqsiro_put_message writes a message, anaqsiro_get_kind and anaqsiro_get_half
+ * read it. */
+#define ANAQSIRO_KIND_BITS 0x0Fu
+#define ANAQSIRO_X_PREVIOUS 0x40u
+#define ANAQSIRO_N_PREVIOUS 0x80u
+#define ANAQSIRO_X_NEW 0x10u
+#define ANAQSIRO_N_NEW 0x20u
 #define ANAQSIRO_HALF 5u
 #define ANAQSIRO_PREVIOUS_AT 2u
 #define ANAQSIRO_NEW_AT (ANAQSIRO_PREVIOUS_AT + ANAQSIRO_HALF)
@@ -74,13 +85,13 @@ extern "C" {
 #define ANAQSIRO_HAS_NEW 2u
 
 /* The longest text of a set, 54,185 bytes, with no zero byte at its end. That set has a permission record for each name as its
- * id, and in each record every letter at a count of five digits. Its bytes are
+ * id, and in each record all eight letters at a count of five digits. Its bytes are
  *   the digits of the ids: 10 ids of one digit, 90 of two, 900 of three, the other 24 of four;
  *   one ; after each id, and one between two records;
- *   in each record every letter, with the five digits of its count. */
+ *   in each record every letter that a permission may have, with the five digits of its count. */
 #define ANAQSIRO_ID_DIGITS (10u * 1u + 90u * 2u + 900u * 3u + (ANAQSIRO_NAMES - 1000u) * 4u)
 #define ANAQSIRO_TEXT_MAX \
-    (ANAQSIRO_ID_DIGITS + ANAQSIRO_NAMES + (ANAQSIRO_NAMES - 1u) + ANAQSIRO_NAMES * ANAQSIRO_LETTERS * (1u + 5u))
+    (ANAQSIRO_ID_DIGITS + ANAQSIRO_NAMES + (ANAQSIRO_NAMES - 1u) + ANAQSIRO_NAMES * ANAQSIRO_LETTERS_OF_PERMISSION * (1u + 5u))
 
 /* A directory has a part for each kind of record, and a part has an entry for each name and one for the end. The entries are
  * uint16_t, and the length of a directory is how many of them there are, not how many bytes. */
@@ -94,7 +105,8 @@ enum anaqsiro_kind {
     ANAQSIRO_FILTER = 3      /* the filter named id bounds key and the members of key; every filter binds */
 };
 
-/* The letters of a mask: four rights, and the denial of each, which permissions alone may have. */
+/* The letters of a mask: four rights, the denial of each, which permissions alone may have, and two markers, of which a half may
+ * carry one, and a membership alone. */
 enum anaqsiro_letter {
     ANAQSIRO_CREATE = 1,
     ANAQSIRO_READ = 2,
@@ -104,12 +116,20 @@ enum anaqsiro_letter {
     ANAQSIRO_NO_READ = 32,
     ANAQSIRO_NO_UPDATE = 64,
     ANAQSIRO_NO_DELETE = 128,
+    ANAQSIRO_X = 256, /* who is a member so is bound to the group: see below */
+    ANAQSIRO_N = 512, /* a chain over this membership binds nobody */
     ANAQSIRO_ALL = ANAQSIRO_CREATE | ANAQSIRO_READ | ANAQSIRO_UPDATE | ANAQSIRO_DELETE
 };
 
-/* The letters as a text has them, in the order of their masks. A letter's number is its place here, 0 for M to 7 for p; its
+/* The markers keep firms apart that share one installation. A user is bound if a chain of 1 to 32 memberships, whatever rights
+ * they carry, counts N in none of them and X in the last; the group that it ends at is hers. N wins over X in the same record.
+ * A bound user holds rights only on objects that are in no group at all, or from which a chain of 0 to 32 memberships, whatever
+ * rights and markers they have, reaches one of her groups. A membership record with marker counts alone gives no chain of any
+ * kind and no group. */
+
+/* The letters as a text has them, in the order of their masks. A letter's number is its place here, 0 for M to 9 for N; its
  * mask is 2 to that number. */
-#define ANAQSIRO_SPELLED "MRUPmrup"
+#define ANAQSIRO_SPELLED "MRUPmrupXN"
 
 /* The numbers that a call can give. anaqsiro_refusal_text says when. */
 enum anaqsiro_number {
@@ -139,9 +159,10 @@ uint64_t anaqsiro_message(uint8_t *block, size_t len, const uint8_t *message, si
  * user's side and one for the object's. A name's mark in round n is the set of rights that some chain of at most n records
  * carries to it; in round 0 the start, which is the user or the object, has all four, the others none, and before round 0
  * nobody has any. The number is, summed over rounds 0 to 31, the membership records whose key's mark differs from the round
- * before. It is at most four times the membership records. Request and filters have no part in it. Numbers 0, 1, 2, 4, 5.
- * Value: the rights + 2^4 * the records examined on the user's side + 2^18 * those on the object's; anaqsiro_held,
- * anaqsiro_user_examined and anaqsiro_object_examined take the answer apart. */
+ * before. It is at most four times the membership records. Request, filters and markers have no part in it. A user who is bound,
+ * and to whom the object is not open, holds none. Numbers 0, 1, 2, 4, 5. Value: the rights + 2^4 * the records examined on the
+ * user's side + 2^18 * those on the object's; anaqsiro_held, anaqsiro_user_examined and anaqsiro_object_examined take the answer
+ * apart. */
 uint64_t anaqsiro_rights(const uint8_t *block, size_t len, uint64_t user, uint64_t object, uint64_t request);
 
 /* Whether the user holds every right requested. Numbers 0, 1, 2, 4, 5. Value: 1 for yes, 0 for no. */
@@ -250,13 +271,13 @@ static inline uint32_t anaqsiro_id(uint64_t answer) { return anaqsiro_value(answ
 static inline const char *anaqsiro_refusal_text(uint64_t number) {
     switch (number) {
     case ANAQSIRO_ACCEPTED: return "accepted";
-    case ANAQSIRO_BLOCK_LENGTH: return "block length not 16 to 40,976";
+    case ANAQSIRO_BLOCK_LENGTH: return "block length not 16 to 49,168";
     case ANAQSIRO_BLOCK_NOT_GOOD: return "block not good";
-    case ANAQSIRO_FORM: return "message not 12 bytes, or kind, flags or an absent half wrong; kind not 1 to 3";
+    case ANAQSIRO_FORM: return "message not 12 bytes, or kind, flags, a marker or an absent half wrong; kind not 1 to 3";
     case ANAQSIRO_NAME: return "a name above 1023, given by the caller or in a present half";
     case ANAQSIRO_MASK: return "request 0 or above 15; a present half's mask 0, or above 15 for M or F";
-    case ANAQSIRO_NOTHING_TO_TAKE: return "a letter of the previous half has count 0 or no record";
-    case ANAQSIRO_COUNT_FULL: return "after taking away, a letter to add stands at 65,535";
+    case ANAQSIRO_NOTHING_TO_TAKE: return "a letter or marker of the previous half has count 0 or no record";
+    case ANAQSIRO_COUNT_FULL: return "after taking away, a letter or marker to add stands at 65,535";
     case ANAQSIRO_NO_ROOM: return "after taking away (or removing the old set), the records do not fit";
     case ANAQSIRO_TEXT: return "not the text of any set of that kind";
     case ANAQSIRO_TEXT_LONG: return "text longer than the output buffer";
@@ -267,7 +288,7 @@ static inline const char *anaqsiro_refusal_text(uint64_t number) {
 
 /* ---- letters */
 
-/* The number of a letter, as anaqsiro_count takes it: 0 for M to 7 for p. ANAQSIRO_LETTERS for any other byte. */
+/* The number of a letter, as anaqsiro_count takes it: 0 for M to 9 for N. ANAQSIRO_LETTERS for any other byte. */
 static inline uint32_t anaqsiro_letter_number(char letter) {
     uint32_t number = 0;
     while (number < ANAQSIRO_LETTERS && ANAQSIRO_SPELLED[number] != letter) {
@@ -276,8 +297,8 @@ static inline uint32_t anaqsiro_letter_number(char letter) {
     return number;
 }
 
-/* The mask of a word of letters: 7 for "MRU", in any order. Where a byte of the word is no letter it is 0, as for the empty
- * word, and every request and every half with the mask 0 is refused with 5. */
+/* The mask of a word of letters: 7 for "MRU", in any order, and 263 for "MRUX". Where a byte of the word is no letter it is 0, as
+ * for the empty word, and every request and every half with the mask 0 is refused with 5. */
 static inline uint32_t anaqsiro_mask(const char *word) {
     uint32_t mask = 0;
     for (; *word != 0; word++) {
@@ -305,8 +326,9 @@ static inline char *anaqsiro_put_letters(char *out, uint64_t mask) {
 
 /* ---- a message put together */
 
-/* One half of a message: the record that it speaks of, by key and id, and the letters to take away from it or to add to it.
- * The numbers are 64 bits wide, as those of the calls, so that 65,537 is never taken for 1. */
+/* One half of a message: the record that it speaks of, by key and id, and the letters to take away from it or to add to it, with
+ * a marker or without. The marker is part of what a statement leaves and has to quote. The numbers are 64 bits wide, as those of
+ * the calls, so that 65,537 is never taken for 1. */
 struct anaqsiro_half {
     uint64_t key;
     uint64_t id;
@@ -320,27 +342,45 @@ static inline void anaqsiro_put_name(uint8_t *at, uint64_t name) {
     at[1] = (uint8_t)(fits >> 8);
 }
 
-/* Writes a kind or a mask to a byte. One that does not fit becomes 0, which no kind and no mask is. */
-static inline void anaqsiro_put_byte(uint8_t *at, uint64_t number) { *at = (uint8_t)(number > 0xFFu ? 0u : number); }
-
-/* Writes a half to its ANAQSIRO_HALF bytes. A null pointer stands for an absent half. */
-static inline void anaqsiro_put_half(uint8_t *at, const struct anaqsiro_half *half) {
+/* Writes a half to its ANAQSIRO_HALF bytes, and gives its markers, which stand elsewhere: X as 1, N as 2. A null pointer stands
+ * for an absent half. A mask with bits that stand for no letter becomes 0, which no mask is. */
+static inline uint32_t anaqsiro_put_half(uint8_t *at, const struct anaqsiro_half *half) {
     const struct anaqsiro_half absent = {0, 0, 0};
     const struct anaqsiro_half *written = half == NULL ? &absent : half;
+    const uint32_t mask = written->mask >> ANAQSIRO_LETTERS != 0 ? 0u : (uint32_t)written->mask;
     anaqsiro_put_name(at, written->key);
     anaqsiro_put_name(at + 2, written->id);
-    anaqsiro_put_byte(at + 4, written->mask);
+    at[4] = (uint8_t)(mask & 0xFFu);
+    return mask / ANAQSIRO_X;
 }
 
 /* Writes a message to its ANAQSIRO_MESSAGE bytes: what the statement said before, and what it says now. A null pointer stands
- * for an absent half: no previous half where the statement is new, no new half where it is withdrawn. Whatever is wrong with a
- * number here, anaqsiro_message refuses by the number of the rules: 3, 4 or 5. */
+ * for an absent half: no previous half where the statement is new, no new half where it is withdrawn. The markers come from the
+ * masks alone: a kind that four bits do not hold becomes 0, which no kind is. Whatever is wrong with a number here,
+ * anaqsiro_message refuses by the number of the rules: 3, 4 or 5. */
 static inline void anaqsiro_put_message(uint8_t *message, uint64_t kind, const struct anaqsiro_half *previous,
                                         const struct anaqsiro_half *new_half) {
-    anaqsiro_put_byte(message, kind);
+    const uint32_t taken = anaqsiro_put_half(message + ANAQSIRO_PREVIOUS_AT, previous);
+    const uint32_t added = anaqsiro_put_half(message + ANAQSIRO_NEW_AT, new_half);
+    const uint32_t fits = (uint32_t)(kind > ANAQSIRO_KIND_BITS ? 0u : kind);
+    message[0] = (uint8_t)(fits | taken * ANAQSIRO_X_PREVIOUS | added * ANAQSIRO_X_NEW);
     message[1] = (uint8_t)((previous != NULL ? ANAQSIRO_HAS_PREVIOUS : 0u) | (new_half != NULL ? ANAQSIRO_HAS_NEW : 0u));
-    anaqsiro_put_half(message + ANAQSIRO_PREVIOUS_AT, previous);
-    anaqsiro_put_half(message + ANAQSIRO_NEW_AT, new_half);
+}
+
+/* ---- a message read, for a host that keeps what its statements left */
+
+/* The kind of a message, without the markers. */
+static inline uint32_t anaqsiro_get_kind(const uint8_t *message) { return message[0] & ANAQSIRO_KIND_BITS; }
+
+/* A half of a message by its place, ANAQSIRO_PREVIOUS_AT or ANAQSIRO_NEW_AT, its mask with the marker. All numbers of an absent
+ * half are 0 in a message that is not refused with 3. */
+static inline struct anaqsiro_half anaqsiro_get_half(const uint8_t *message, size_t at) {
+    const uint32_t markers = message[0] / (at == ANAQSIRO_PREVIOUS_AT ? ANAQSIRO_X_PREVIOUS : ANAQSIRO_X_NEW) & 3u;
+    struct anaqsiro_half half;
+    half.key = (uint64_t)message[at] | (uint64_t)message[at + 1] << 8;
+    half.id = (uint64_t)message[at + 2] | (uint64_t)message[at + 3] << 8;
+    half.mask = message[at + 4] | (uint64_t)markers * ANAQSIRO_X;
+    return half;
 }
 
 #ifdef __cplusplus
