@@ -1,6 +1,6 @@
 //! The block and its calls.
 
-use crate::letters::LETTERS;
+use crate::letters::{LETTERS, MASKED};
 use crate::refusal::{done, how_many, yes};
 use crate::{raw, Held, Kind, Name, Refusal, Rights, NAMES};
 use std::fmt;
@@ -20,12 +20,12 @@ impl Block {
     pub const SHORTEST: usize = 16;
     /// The bytes of the longest block.
     pub const LONGEST: usize = Self::SHORTEST + Self::GREATEST_ROOM * Self::RECORD;
-    /// The bytes of the longest text of a set: it has every name as an id, every letter with a count of five digits in each
-    /// record, a semicolon after each id and one between two records.
+    /// The bytes of the longest text of a set: it has every name as an id, every letter that a permission may have with a count of
+    /// five digits in each record, a semicolon after each id and one between two records.
     pub const LONGEST_TEXT: usize = {
         let names = NAMES as usize;
         let digits = 10 + 90 * 2 + 900 * 3 + (names - 1000) * 4;
-        digits + names + (names - 1) + names * LETTERS * (1 + 5)
+        digits + names + (names - 1) + names * MASKED * (1 + 5)
     };
 
     /// How long a block with room for so many records is. More than [`Block::GREATEST_ROOM`] are refused.
@@ -117,7 +117,7 @@ impl Block {
     }
 
     /// The rights that the user holds on the object, of those requested, and how many membership records were examined on each
-    /// side.
+    /// side. A user whom a [`Marker`](crate::Marker) binds holds none on what is in some group and in none of hers.
     ///
     /// ```
     /// use anaqsiro::{Block, Kind, Rights};

@@ -10,7 +10,7 @@ use crate::{Block, Refusal, Rights};
 /// A name's mark in round n is the set of rights that some chain of at most n records carries to it; in round 0 the start,
 /// which is the user or the object, has all four, the others none, and before round 0 nobody has any. The number is, summed
 /// over rounds 0 to 31, the membership records whose key's mark differs from the round before. It is at most four times the
-/// membership records. Request and filters have no part in it.
+/// membership records. Request, filters and markers have no part in it.
 ///
 /// ```
 /// use anaqsiro::{Block, Kind, Rights};

@@ -1,6 +1,6 @@
 //! Statements: what each one left, and the turn of each of its messages.
 
-use crate::{Block, Half, Kind, Letters, Message, Name, Refusal};
+use crate::{Block, Half, Kind, Message, Name, Refusal};
 use std::borrow::Borrow;
 use std::collections::BTreeMap;
 use std::fmt;
@@ -39,7 +39,8 @@ use std::fmt;
 /// ```
 ///
 /// The block begins empty, and each message that is applied quotes as its previous half just what its statement left. Then each
-/// count is the number of statements standing with that record and that letter, at every moment: that is proved of the library.
+/// count is the number of statements standing with that record and that letter, at every moment: that is proved of the library. A
+/// marker counts as a letter.
 /// And no message is refused with [`Refusal::NothingToTake`].
 ///
 /// What [`Ledger::take`] does with a message:
@@ -503,11 +504,12 @@ impl<L: Ord> Ledger<L> {
         self.known.iter().filter_map(|(label, known)| Some((label, known.said?)))
     }
 
-    /// The statements that stand with a record, and the letters that each gives it: who is to be asked why a right is there.
-    pub fn statements_of(&self, kind: Kind, key: Name, id: Name) -> impl Iterator<Item = (&L, Letters)> {
+    /// The statements that stand with a record, and what each left, its letters and its marker: who is to be asked why a right is
+    /// there, or why somebody is bound.
+    pub fn statements_of(&self, kind: Kind, key: Name, id: Name) -> impl Iterator<Item = (&L, Half)> {
         self.statements().filter_map(move |(label, said)| {
             let half = said.left.filter(|half| (said.kind, half.key, half.id) == (kind, key, id))?;
-            Some((label, half.mask))
+            Some((label, half))
         })
     }
 

@@ -1,15 +1,15 @@
-//! The letters of the rules: the four rights, and the denial of each.
+//! The letters of the rules: the four rights, the denial of each, and the two markers.
 
 use std::fmt;
 use std::ops::{BitAnd, BitAndAssign, BitOr, BitOrAssign};
 use std::str::FromStr;
 
-/// The letters in their order: the rights, then the denial of each. The mask of a letter is 1 shifted by its place.
-pub(crate) const ORDER: &str = "MRUPmrup";
+/// The letters in their order: the rights, the denial of each, then the markers. The mask of a letter is 1 shifted by its place.
+pub(crate) const ORDER: &str = "MRUPmrupXN";
 
-/// How many letters there are, how many of them a mask has bits for, and how many are rights.
+/// How many letters there are, how many of them a mask has bits for, which are all but the markers, and how many are rights.
 pub(crate) const LETTERS: usize = ORDER.len();
-const MASKED: usize = u8::BITS as usize;
+pub(crate) const MASKED: usize = u8::BITS as usize;
 pub(crate) const RIGHTS: usize = 4;
 
 /// The place of a letter in the order.
@@ -75,6 +75,57 @@ impl fmt::Display for NotLetters {
 
 impl std::error::Error for NotLetters {}
 
+/// A marker of a membership, for firms that share one installation: see [`Half::marked`](crate::Half::marked). It belongs to the
+/// membership, not to a right.
+///
+/// A user is bound if a chain of 1 to 32 memberships, whatever rights they carry, counts N in none of them and X in the last; the
+/// group that it ends at is hers. A bound user holds rights only on objects that are members of no group at all, and on those from
+/// which a chain of 0 to 32 memberships, whatever rights and markers they have, leads to one of her groups.
+///
+/// ```
+/// use anaqsiro::{Block, Half, Kind, Marker, Message, Rights};
+///
+/// let mut block = Block::with_room(8)?;
+/// let (anna, firm, other_firm) = (1, 2, 3);
+/// let hers = Half::new(anna, firm, Rights::ALL).marked(Marker::X);
+/// block.apply(Message::new(Kind::Membership, None, Some(hers)))?;
+/// assert_eq!(block.set_text(Kind::Membership, anna)?, "2;MRUPX");
+/// for (pump, group) in [(9, firm), (10, other_firm)] {
+///     block.read_set(Kind::Membership, pump, format!("{group};MRUP"))?;
+/// }
+/// block.read_set(Kind::Permission, 0, "1;RU")?; // Anna may read and update everything
+/// assert!(block.may(anna, 9, Rights::UPDATE)?);
+/// assert!(!block.may(anna, 10, Rights::UPDATE)?); // it is the other firm's
+/// assert!(block.may(anna, 11, Rights::UPDATE)?); // it is in no group
+/// # Ok::<(), anaqsiro::Refusal>(())
+/// ```
+#[derive(Clone, Copy, Debug, PartialEq, Eq, PartialOrd, Ord, Hash)]
+pub enum Marker {
+    /// Who is a member so is bound to the group.
+    X,
+    /// A chain that goes over the membership binds nobody. It wins over X in the same record.
+    N,
+}
+
+impl Marker {
+    /// Each marker, in the order of the letters.
+    pub const ALL: [Marker; 2] = [Marker::X, Marker::N];
+
+    /// The letter of the marker.
+    pub const fn letter(self) -> char {
+        match self {
+            Marker::X => 'X',
+            Marker::N => 'N',
+        }
+    }
+}
+
+impl fmt::Display for Marker {
+    fn fmt(&self, f: &mut fmt::Formatter<'_>) -> fmt::Result {
+        self.letter().fmt(f)
+    }
+}
+
 /// A set of rights.
 ///
 /// As text it has a letter for each: `M` create, `R` read, `U` update, `P` delete. They are read in any order and written in
@@ -93,7 +144,8 @@ impl std::error::Error for NotLetters {}
 #[derive(Clone, Copy, Default, PartialEq, Eq, Hash)]
 pub struct Rights(u8);
 
-/// A set of letters, as a half of a message has it: rights and, where it speaks of a permission, denials.
+/// A set of letters, as the mask of a half of a message has it: rights and, where it speaks of a permission, denials. A marker is
+/// not among them: a half has it by itself.
 ///
 /// As text a denial has the small letter of its right: `m`, `r`, `u`, `p`.
 ///

@@ -33,6 +33,7 @@
 //! - [`Ledger`]: a block with its statements. Use it where messages may arrive out of order, twice or late, or where nobody
 //!   else keeps what each statement said last.
 //! - [`Rights`] and [`Letters`]: what a question asks for, and what a message gives or denies.
+//! - [`Marker`]: how firms that share one installation are kept apart.
 //! - [`Held`]: what the full question answers: the rights, and how many memberships were examined on each side.
 //!
 //! The answers of the block are those of the archive, which is proved; this crate around it is tested.
@@ -52,7 +53,7 @@ pub use block::Block;
 pub use directed::{DirectedBlock, NotDirected};
 pub use held::Held;
 pub use ledger::{Ledger, NotTaken, Said, Statement, Taken, Waiting, Why};
-pub use letters::{Letters, NotLetters, Rights};
+pub use letters::{Letters, Marker, NotLetters, Rights};
 pub use message::{Half, Kind, Message, Name, NAMES};
 pub use records::{Record, Records};
 pub use refusal::Refusal;

@@ -1,6 +1,6 @@
 //! What a host tells the index: kinds, names, halves and messages.
 
-use crate::{Letters, Refusal};
+use crate::{Letters, Marker, Refusal};
 use std::fmt;
 
 /// The number of a user, a group or an object. It is 64 bits wide everywhere, so that 65,537 is refused with
@@ -45,12 +45,15 @@ impl Kind {
     }
 }
 
-/// One half of a message: a record, and the letters that are taken away from it or added to it.
+/// One half of a message: a record, and the letters that are taken away from it or added to it. As text a marker follows the
+/// letters.
 #[derive(Clone, Copy, Debug, PartialEq, Eq, Hash)]
 pub struct Half {
     pub key: Name,
     pub id: Name,
     pub mask: Letters,
+    /// The marker that goes with the letters, if the half speaks of a membership.
+    pub marker: Option<Marker>,
 }
 
 /// A name in the 16 bits that a message has for it. One that they do not hold becomes the greatest that they do, which is
@@ -63,9 +66,29 @@ impl Half {
     /// The bytes of a half in a message: key, id and mask.
     const BYTES: usize = 5;
 
-    /// A half with this mask, of rights or of letters.
+    /// A half with this mask, of rights or of letters, and no marker.
     pub fn new(key: Name, id: Name, mask: impl Into<Letters>) -> Half {
-        Half { key, id, mask: mask.into() }
+        Half { key, id, mask: mask.into(), marker: None }
+    }
+
+    /// The half with a marker. It is part of what a statement leaves and has to quote. Of a permission or a filter, the message is
+    /// refused with [`Refusal::Form`]; without letters beside the marker, with [`Refusal::Mask`].
+    ///
+    /// ```
+    /// use anaqsiro::{Block, Half, Kind, Marker, Message, Refusal, Rights};
+    ///
+    /// let mut block = Block::with_room(8)?;
+    /// let plain = Half::new(1, 2, Rights::READ);
+    /// let marked = plain.marked(Marker::X);
+    /// block.apply(Message::new(Kind::Membership, None, Some(marked)))?;
+    /// let other = Message::new(Kind::Membership, Some(plain.marked(Marker::N)), None);
+    /// assert_eq!(block.apply(other), Err(Refusal::NothingToTake));
+    /// block.apply(Message::new(Kind::Membership, Some(marked), Some(plain)))?; // the marker is taken away
+    /// assert_eq!(block.set_text(Kind::Membership, 1)?, "2;R");
+    /// # Ok::<(), Refusal>(())
+    /// ```
+    pub fn marked(self, marker: Marker) -> Half {
+        Half { marker: Some(marker), ..self }
     }
 
     fn put(self, bytes: &mut [u8]) {
@@ -74,19 +97,21 @@ impl Half {
         bytes[4] = self.mask.mask();
     }
 
-    fn get(bytes: &[u8]) -> Half {
+    fn get(bytes: &[u8], marker: Option<Marker>) -> Half {
         let name = |at: usize| u16::from_le_bytes([bytes[at], bytes[at + 1]]).into();
-        Half { key: name(0), id: name(2), mask: Letters::from_mask(bytes[4].into()).unwrap_or_default() }
+        Half { key: name(0), id: name(2), mask: Letters::from_mask(bytes[4].into()).unwrap_or_default(), marker }
     }
 }
 
 impl fmt::Display for Half {
     fn fmt(&self, f: &mut fmt::Formatter<'_>) -> fmt::Result {
-        write!(f, "key {}, id {}, {}", self.key, self.id, self.mask)
+        write!(f, "key {}, id {}, {}", self.key, self.id, self.mask)?;
+        self.marker.map_or(Ok(()), |marker| marker.fmt(f))
     }
 }
 
-/// A message: its kind, which halves are present, and the two halves. It may be any bytes; the library refuses what is wrong.
+/// A message: its kind with the markers of the halves, which halves are present, and the two halves. It may be any bytes; the library
+/// refuses what is wrong.
 ///
 /// ```
 /// use anaqsiro::{Half, Kind, Letters, Message};
@@ -104,6 +129,10 @@ impl Message {
     pub const BYTES: usize = Self::HALVES + 2 * Half::BYTES;
     /// Where the halves begin, after kind and flags.
     const HALVES: usize = 2;
+    /// The bits of the first byte that have the kind, and the one from which on each half, the previous and the new one, has its
+    /// markers: X and N, a bit for each.
+    const KIND: u8 = 15;
+    const MARKERS: [u32; 2] = [6, 4];
 
     /// What the statement said before, and what it says now.
     pub fn new(kind: Kind, previous: Option<Half>, new: Option<Half>) -> Message {
@@ -112,6 +141,7 @@ impl Message {
         front[0] = kind.number();
         for (side, (half, bytes)) in [previous, new].into_iter().zip(halves.chunks_mut(Half::BYTES)).enumerate() {
             if let Some(half) = half {
+                front[0] |= half.marker.map_or(0, |marker| 1 << marker as u8) << Self::MARKERS[side];
                 front[1] |= 1 << side;
                 half.put(bytes);
             }
@@ -119,16 +149,23 @@ impl Message {
         Message(bytes)
     }
 
-    /// The kind, if its number is one of a kind.
+    /// The kind, if its number is one of a kind. The markers of the halves, which stand in the same byte, are not looked at.
     pub fn kind(&self) -> Option<Kind> {
-        Kind::from_number(self.0[0].into())
+        Kind::from_number((self.0[0] & Self::KIND).into())
     }
 
-    /// The previous half and the new one, each if the flags say that it is present.
+    /// The marker of a half by its number; none where it has both, which is refused.
+    fn marker(&self, side: usize) -> Option<Marker> {
+        let bits = self.0[0] >> Self::MARKERS[side] & 3;
+        Marker::ALL.into_iter().find(|&marker| bits == 1 << marker as u8)
+    }
+
+    /// The previous half and the new one, each if the flags say that it is present. A half with both markers, which is refused, is
+    /// given without a marker.
     pub fn halves(&self) -> [Option<Half>; 2] {
         [0, 1].map(|side| {
             let bytes = &self.0[Self::HALVES + side * Half::BYTES..][..Half::BYTES];
-            (self.0[1] >> side & 1 == 1).then(|| Half::get(bytes))
+            (self.0[1] >> side & 1 == 1).then(|| Half::get(bytes, self.marker(side)))
         })
     }
 }

@@ -1,6 +1,6 @@
 //! What stands in a block, record by record.
 
-use crate::letters::{place_of, LETTERS, ORDER};
+use crate::letters::{place_of, LETTERS, MASKED, ORDER};
 use crate::{raw, Block, Kind, Letters, Name, Refusal, NAMES};
 use std::array;
 use std::fmt;
@@ -12,19 +12,20 @@ pub struct Record {
     pub kind: Kind,
     pub key: Name,
     pub id: Name,
-    /// How many statements stand with each letter, in the order M, R, U, P, m, r, u, p.
+    /// How many statements stand with each letter, in the order M, R, U, P, m, r, u, p, X, N.
     pub counts: [u16; LETTERS],
 }
 
 impl Record {
-    /// How many statements stand with a letter, one of `MRUPmrup`; 0 for any other.
+    /// How many statements stand with a letter, one of `MRUPmrupXN`; 0 for any other. A [`Marker`](crate::Marker) tells its letter.
     pub fn count(&self, letter: char) -> u16 {
         place_of(letter).map_or(0, |place| self.counts[place])
     }
 
-    /// The letters with a count above zero.
+    /// The letters with a count above zero, without the markers. Where there are none, the record has markers alone: it makes nobody
+    /// a member.
     pub fn letters(&self) -> Letters {
-        let counted = self.counts.iter().enumerate().filter(|(_, &count)| count > 0);
+        let counted = self.counts[..MASKED].iter().enumerate().filter(|(_, &count)| count > 0);
         Letters::from_mask(counted.map(|(place, _)| 1 << place).sum()).unwrap_or_default()
     }
 

@@ -10,15 +10,17 @@ pub enum Refusal {
     BlockLength,
     /// 2: block not good.
     BlockNotGood,
-    /// 3: message not as long as a [`Message`](crate::Message), or kind, flags or an absent half wrong.
+    /// 3: message not as long as a [`Message`](crate::Message), or kind, flags, a marker or an absent half wrong: both markers in one
+    /// half, one on an absent half, or one on a permission or a filter.
     Form,
     /// 4: a name that is not below [`NAMES`](crate::NAMES).
     Name,
-    /// 5: no right requested; a half's mask empty, or with a denial where a membership or a filter is spoken of.
+    /// 5: no right requested; a half's mask empty, with or without a marker, or with a denial where a membership or a filter is spoken
+    /// of.
     Mask,
-    /// 6: a letter of the previous half has count 0 or no record.
+    /// 6: a letter or the marker of the previous half has count 0 or no record.
     NothingToTake,
-    /// 7: after taking away, a letter to add stands at [`u16::MAX`].
+    /// 7: after taking away, a letter or the marker to add stands at [`u16::MAX`].
     CountFull,
     /// 8: after taking away, the records do not fit.
     NoRoom,
@@ -82,13 +84,13 @@ impl Refusal {
 impl fmt::Display for Refusal {
     fn fmt(&self, f: &mut fmt::Formatter<'_>) -> fmt::Result {
         let why = match self {
-            Refusal::BlockLength => "block length not 16 to 40,976",
+            Refusal::BlockLength => "block length not 16 to 49,168",
             Refusal::BlockNotGood => "block not good",
-            Refusal::Form => "message not 12 bytes, or kind, flags or an absent half wrong; kind not 1 to 3",
+            Refusal::Form => "message not 12 bytes, or kind, flags, a marker or an absent half wrong; kind not 1 to 3",
             Refusal::Name => "a name above 1023, given by the caller or in a present half",
             Refusal::Mask => "request 0 or above 15; a present half's mask 0, or above 15 for M or F",
-            Refusal::NothingToTake => "a letter of the previous half has count 0 or no record",
-            Refusal::CountFull => "after taking away, a letter to add stands at 65,535",
+            Refusal::NothingToTake => "a letter or marker of the previous half has count 0 or no record",
+            Refusal::CountFull => "after taking away, a letter or marker to add stands at 65,535",
             Refusal::NoRoom => "after taking away (or removing the old set), the records do not fit",
             Refusal::Text { .. } => "not the text of any set of that kind",
             Refusal::TextLong => "text longer than the output buffer",

@@ -1,5 +1,5 @@
-//! A block as it is stored, so that a fault in what was stored is found. Half of all single-bit faults in a block give another
-//! good block, with other counts or names; the block alone can not show them.
+//! A block as it is stored, so that a fault in what was stored is found. More than half of all single-bit faults in a block give
+//! another good block, with other counts or names; the block alone can not show them.
 
 use crate::{Block, Refusal};
 use std::fmt;
@@ -7,8 +7,8 @@ use std::fmt;
 /// The first bytes of a saved block.
 const MAGIC: [u8; 8] = *b"anaqsiro";
 
-/// The version of what follows: how a block is laid out.
-const VERSION: u32 = 1;
+/// The version of what follows: how a block is laid out. In version 1 a record had 20 bytes, and no counts of markers.
+const VERSION: u32 = 2;
 
 /// The bytes of the checksum at the end.
 const CHECKSUM: usize = 4;
@@ -68,7 +68,7 @@ impl Block {
     /// | bytes | what |
     /// |---|---|
     /// | 0 to 7 | `anaqsiro` |
-    /// | 8 to 11 | the version, 1 |
+    /// | 8 to 11 | the version, 2 |
     /// | from 12 on | the block |
     /// | the last 4 | the CRC-32 (that of zlib) of all bytes before |
     ///
@@ -137,15 +137,29 @@ mod tests {
         let front = &whole[..whole.len() - CHECKSUM];
         assert_eq!(summed(front), whole);
         let mut other = front.to_vec();
-        other[MAGIC.len()] = 2;
-        assert_eq!(Block::load(&summed(&other)), Err(NotLoaded::OtherVersion(2)));
+        other[MAGIC.len()] = 3;
+        assert_eq!(Block::load(&summed(&other)), Err(NotLoaded::OtherVersion(3)));
         other[MAGIC.len() + 3] = 1;
-        assert_eq!(Block::load(&summed(&other)), Err(NotLoaded::OtherVersion((1 << 24) + 2)));
+        assert_eq!(Block::load(&summed(&other)), Err(NotLoaded::OtherVersion((1 << 24) + 3)));
         let mut bad = front.to_vec();
         bad[BLOCK_AT + 6] = 1;
         assert_eq!(Block::load(&summed(&bad)), Err(NotLoaded::NotGood(Refusal::BlockNotGood)));
         assert_eq!(Block::load(&summed(&front[..BLOCK_AT])), Err(NotLoaded::NotGood(Refusal::BlockLength)));
         assert_eq!(Block::load(&summed(&front[..BLOCK_AT - 1])), Err(NotLoaded::Damaged));
         assert_eq!(Block::load(&summed(b"anaqsirx0000")), Err(NotLoaded::NotSaved));
+    }
+
+    /// Blocks of version 1 with a record of each kind, and with none: the version tells them, and so do the offsets of a block that
+    /// has a record.
+    #[test]
+    fn a_block_of_version_1_is_not_read() {
+        for sizes in [[0, 0, 0], [1, 0, 0], [0, 1, 0], [0, 0, 1], [2, 3, 1]] {
+            let ends = [sizes[0], sizes[0] + sizes[1], sizes.iter().sum()].map(|records: u16| 16 + 20 * records);
+            let header = [sizes[0], sizes[1], sizes[2], 0, 16, ends[0], ends[1], ends[2]];
+            let records = (0..ends[2] - 16).map(|at| u8::from(at % 20 == 4) + (at / 20 * u16::from(at % 20 == 0)) as u8);
+            let old: Vec<u8> = header.iter().flat_map(|word| word.to_le_bytes()).chain(records).chain([0; 60]).collect();
+            assert_eq!(Block::load(&summed(&[&MAGIC[..], &[1, 0, 0, 0], &old].concat())), Err(NotLoaded::OtherVersion(1)));
+            assert_eq!(Block::from_bytes(old).check().is_ok(), sizes == [0, 0, 0]);
+        }
     }
 }

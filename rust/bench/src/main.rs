@@ -1,13 +1,14 @@
 //! Times the library beside the plain program in one run, and prints ratios: bench. ANAQSIRO_NOW and ANAQSIRO_BEFORE name shared
 //! objects of two archives, as `tools/ratios` makes them: the first is then the library, in place of the archive that is linked,
-//! and the second is timed beside it. The calls by a directory have tables of their own, in which each stands beside the call
-//! without it.
+//! and the second is timed beside it. Their records may have different lengths: each program's blocks are made by its own calls, as
+//! long as its own records want them, and the test of a block is told by the byte too. The calls by a directory have tables of
+//! their own, in which each stands beside the call without it, and so have blocks with markers, for programs that know them.
 //!
 //! Each figure is the median over several rounds of some milliseconds of the processor's time; in a round each program does the
 //! same calls, in turn, on a block that its own calls have made. Buffers are warm: each call works on what the call before left.
 
 use compare::Archive;
-use plain::{half_at, Plain, ALL, CHAIN, ENTRIES, HEADER, MASK, MESSAGE, NAMES, NEW, OLD, ROOM};
+use plain::{half_at, Plain, ALL, CHAIN, ENTRIES, HEADER, MARKED, MASK, MESSAGE, NAMES, NEW, OLD, RECORD, ROOM};
 use second::drive::{Library, TEXT};
 use second::gen::Rng;
 use second::{Counts, Index, Part, M, RIGHTS};
@@ -17,6 +18,8 @@ use std::ffi::c_int;
 use std::fs;
 use std::hint::black_box;
 use std::ops::Range;
+
+mod firms;
 
 const ROUNDS: usize = 31;
 
@@ -118,28 +121,32 @@ fn word(b: &[u8], at: usize) -> usize {
     usize::from(u16::from_le_bytes([b[at], b[at + 1]]))
 }
 
-/// A message with one half, the old one or the new one.
-fn message(half: usize, kind: u8, key: u16, id: u16, mask: u8) -> [u8; MESSAGE] {
-    let (mut m, at) = ([0; MESSAGE], half_at(half));
-    (m[0], m[1]) = (kind, 1 << half);
+/// A message with one half, the old one or the new one. The mask has the letters of a half, and above them its markers.
+fn message(half: usize, kind: u8, key: u16, id: u16, mask: u16) -> [u8; MESSAGE] {
+    let (mut m, at, [letters, markers]) = ([0; MESSAGE], half_at(half), mask.to_le_bytes());
+    (m[0], m[1]) = (kind | markers << MARKED[half], 1 << half);
     m[at..at + MASK].copy_from_slice(&[key, id].map(u16::to_le_bytes).concat());
-    m[at + MASK] = mask;
+    m[at + MASK] = letters;
     m
+}
+
+/// How long a program's records are: where they end in a block that has one.
+fn record_of(library: &dyn Library) -> usize {
+    let mut one = vec![0; 2 * HEADER + 64];
+    assert_eq!(library.make(&mut one), 0);
+    assert_eq!(library.message(&mut one, &message(NEW, MEMBERSHIP, 1, 1, READ.into())), 0);
+    word(&one, HEADER - 2) - HEADER
 }
 
 /// An empty block of a program with room for so many records, as long as the program's own records are.
 fn empty(library: &dyn Library, room: usize) -> Vec<u8> {
-    let mut one = vec![0; 2 * HEADER + 64];
-    assert_eq!(library.make(&mut one), 0);
-    assert_eq!(library.message(&mut one, &message(NEW, MEMBERSHIP, 1, 1, READ)), 0);
-    let record = word(&one, HEADER - 2) - HEADER;
-    let mut b = vec![0; HEADER + record * room];
+    let mut b = vec![0; HEADER + record_of(library) * room];
     assert_eq!(library.make(&mut b), 0);
     b
 }
 
 /// Adds to a record of the block, which has room for it.
-fn give(library: &dyn Library, b: &mut [u8], kind: u8, key: u16, id: u16, mask: u8) {
+fn give(library: &dyn Library, b: &mut [u8], kind: u8, key: u16, id: u16, mask: u16) {
     assert_eq!(library.message(b, &message(NEW, kind, key, id, mask)), 0);
 }
 
@@ -162,14 +169,17 @@ fn block(library: &dyn Library, &Size(memberships, grants, filters, spare): &Siz
                 _ => (object, rng.below(20) as u16),
             };
             let mask = if rng.one_in(3) { ALL } else { READ };
-            give(library, &mut b, kind, key, id, mask);
+            give(library, &mut b, kind, key, id, mask.into());
         }
     }
     b
 }
 
-/// A membership: key, id and mask.
-type Membership = (u16, u16, u8);
+/// A membership: key, id and mask, with markers or without.
+type Membership = (u16, u16, u16);
+
+/// The mask of all rights.
+const EVERY: u16 = ALL as u16;
 
 /// A block of a program with these memberships, and grants to and on some names.
 fn shaped(library: &dyn Library, memberships: &[Membership]) -> Vec<u8> {
@@ -178,14 +188,14 @@ fn shaped(library: &dyn Library, memberships: &[Membership]) -> Vec<u8> {
         give(library, &mut b, MEMBERSHIP, key, id, mask);
     }
     for n in 0..40 {
-        give(library, &mut b, PERMISSION, 25 * n, (25 * n + 500) % 1000, ALL);
+        give(library, &mut b, PERMISSION, 25 * n, (25 * n + 500) % 1000, EVERY);
     }
     b
 }
 
 /// Memberships, two for each of some names, by which each of those leads to all of them.
 fn doubled(first: u16, names: u16) -> impl Iterator<Item = Membership> {
-    (0..2 * names).map(move |n| (first + n / 2, first + n % names, ALL))
+    (0..2 * names).map(move |n| (first + n / 2, first + n % names, EVERY))
 }
 
 /// The user and the object of the n-th question.
@@ -272,8 +282,11 @@ fn ratio(rounds: &[Vec<f64>], one: usize, other: usize) -> f64 {
 /// The programs that are timed: the library first, then the plain program, then the archive from before, if there is one.
 struct Programs {
     all: Vec<Box<dyn Library>>,
-    /// How many of them, the first ones, have the calls by a directory.
+    /// How many of them, the first ones, have the calls by a directory, and how many know markers.
     directed: usize,
+    marked: usize,
+    /// How many of them are timed.
+    timed: usize,
     /// Whether the calls go by a directory.
     by: bool,
 }
@@ -294,13 +307,14 @@ impl Programs {
             all.push(Box::new(before));
             directed += usize::from(var("ANAQSIRO_BEFORE").is_ok_and(|path| has(&path, "anaqsiro_directory")));
         }
-        Ok(Programs { all, directed, by: false })
+        let marked = all.iter().take_while(|library| record_of(library.as_ref()) == RECORD).count();
+        Ok(Programs { timed: all.len(), all, directed, marked, by: false })
     }
 
     /// Each program with a block of its own, made by the function given. Where the calls go by a directory, the library without
     /// one is the first.
     fn with(&self, made: impl Fn(&dyn Library) -> Vec<u8>) -> Vec<Runner<'_>> {
-        let all = self.all.iter().map(Box::as_ref);
+        let all = self.all.iter().take(self.timed).map(Box::as_ref);
         if !self.by {
             return all.map(|library| Runner::without(library, made(library))).collect();
         }
@@ -322,7 +336,7 @@ impl Programs {
     /// the calls go by one, to the plain program, and to the archive from before, if there is one that has the calls.
     fn headed(&self, what: &str, first: &str, last: &[&str]) {
         let (by, how) = if self.by { (&["by / without"][..], ", by a directory") } else { (&[][..], "") };
-        let known = if self.by { self.directed } else { self.all.len() };
+        let known = if self.by { self.directed.min(self.timed) } else { self.timed };
         let before: &[&str] = if known > 2 { &["library / before"] } else { &[] };
         let columns = [&[first], by, &["library / Rust"], before, last].concat();
         println!("\n{what}{how}\n\n| {} |\n|{}", columns.join(" | "), "---|".repeat(columns.len()));
@@ -356,6 +370,16 @@ fn timed(runners: &mut [Runner], group: usize, call: impl Fn(&mut Runner, usize)
     rounds
 }
 
+/// Times the test of each program's block, and prints the line of it: by the byte.
+fn row_by_the_byte(runners: &mut [Runner]) {
+    let (mut rounds, library) = (timed(runners, GROUP, |runner, n| ask(runner, TEST.1, asked, n)), library_of(runners));
+    for taken in &mut rounds {
+        taken.iter_mut().zip(runners.iter()).for_each(|(time, runner)| *time /= runner.block.len() as f64);
+    }
+    let (others, nanoseconds) = (ratios(&rounds, library), 1e3 * micros(&rounds, library + 1));
+    println!("| the test of the block, by the byte | {others} | {nanoseconds:.4} ns |");
+}
+
 /// Times a call of each program, and prints the line of it.
 fn row(what: &str, runners: &mut [Runner], call: impl Fn(&mut Runner, usize)) {
     let (rounds, library) = (timed(runners, GROUP, call), library_of(runners));
@@ -387,7 +411,7 @@ fn in_tests(runners: &[Runner], asked: Asked) {
 
 /// Adds a membership and takes it away again.
 fn there_and_back(what: &str, runners: &mut [Runner], key: usize, id: usize) {
-    let messages = [NEW, OLD].map(|half| message(half, MEMBERSHIP, key as u16, id as u16, READ));
+    let messages = [NEW, OLD].map(|half| message(half, MEMBERSHIP, key as u16, id as u16, READ.into()));
     row(what, runners, |run, n| {
         black_box(run.message(&messages[n % 2]));
     });
@@ -405,6 +429,9 @@ fn measure(programs: &Programs, name: &str, size: &Size) {
     programs.title(name);
     let mut runners = programs.with(|library| block(library, size));
     rows(&programs.asks(), &mut runners, asked);
+    if !programs.by {
+        row_by_the_byte(&mut runners);
+    }
     let (key, id) = (word(&runners[0].block, HEADER), word(&runners[0].block, HEADER + 2));
     there_and_back("a message that changes a count", &mut runners, key, id);
     there_and_back("a message that inserts, or removes, in front of all", &mut runners, 0, 1);
@@ -431,7 +458,7 @@ fn questions(programs: &Programs, name: &str, memberships: &[Membership]) {
 /// The memberships, of which two thirds carry one right only.
 fn thinned(memberships: &[Membership]) -> Vec<Membership> {
     let mut rng = Rng(42);
-    let mut thin = |mask: u8| if rng.one_in(3) { mask } else { 1 << rng.below(RIGHTS as u64) };
+    let mut thin = |mask: u16| if rng.one_in(3) { mask } else { 1 << rng.below(RIGHTS as u64) };
     memberships.iter().map(|&(key, id, mask)| (key, id, thin(mask))).collect()
 }
 
@@ -458,7 +485,7 @@ fn bound(programs: &Programs) {
     programs.title("The mill, with its 40 filters on one object and nine groups of it");
     let mut runners = programs.with(|library| {
         let mut b = block(library, &Size(memberships - 9, grants, 0, filters + spare + 9));
-        let mut all = |kind, key, id| give(library, &mut b, kind, key, id, ALL);
+        let mut all = |kind, key, id| give(library, &mut b, kind, key, id, EVERY);
         groups.clone().for_each(|group| all(MEMBERSHIP, object, group));
         (object..).take(filters / 4).for_each(|key| (0..4).for_each(|id| all(FILTER, key, id)));
         b
@@ -472,7 +499,7 @@ fn large_set(programs: &Programs) {
     programs.title("A set of 1,000 records, with 1,000 records behind it");
     let mut runners = programs.with(|library| {
         let mut b = empty(library, ROOM);
-        (0..1000).for_each(|id| give(library, &mut b, PERMISSION, 9, id, READ));
+        (0..1000).for_each(|id| give(library, &mut b, PERMISSION, 9, id, READ.into()));
         b
     });
     in_and_out("reading it in, and taking it out", &mut runners, 5, &text);
@@ -649,12 +676,12 @@ fn lookups() {
 fn shapes() -> [(&'static str, Vec<Membership>); 4] {
     let dense: Vec<_> = doubled(0, 1000).collect();
     [
-        ("A chain of 1,000", (0..1000).map(|name| (name, name + 1, ALL)).collect()),
+        ("A chain of 1,000", (0..1000).map(|name| (name, name + 1, EVERY)).collect()),
         ("Dense: every name reaches every other", dense.clone()),
         ("Dense, with masks that differ", thinned(&dense)),
         (
             "Dense by one group, which every name is in and which is in every name",
-            (0..999).flat_map(|name| [(name, 999, ALL), (999, name, ALL)]).collect(),
+            (0..999).flat_map(|name| [(name, 999, EVERY), (999, name, EVERY)]).collect(),
         ),
     ]
 }
@@ -681,7 +708,9 @@ fn main() -> Result<(), String> {
     let reached = [0, 100, 400, 1600];
     growth(&programs, "reached, of 1,800", &reached, |number| Reach { own: number / 4, others: 900 - number / 2 });
     lookups();
+    firms::tables(&mut programs);
     programs.by = true;
     tables(&programs);
+    firms::tables(&mut programs);
     Ok(())
 }

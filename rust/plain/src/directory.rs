@@ -48,9 +48,9 @@ fn fits(entries: &[u16], records: &[Record], start: usize) -> bool {
     usize::from(entries[0]) == start && usize::from(entries[NAMES]) == at && falls | outside == 0
 }
 
-/// The lent directory, where the block is good and the directory its own.
-fn own<'a>(b: &[u8], lent: &'a [u16]) -> Result<&'a Directory, u32> {
-    sound(b)?;
+/// The lent directory, where the block is good and the directory its own; and whether M records count X.
+fn own<'a>(b: &[u8], lent: &'a [u16]) -> Result<(&'a Directory, bool), u32> {
+    let marked = sound(b)?;
     let directory: &Directory = lent.try_into().map_err(|_| 13u32)?;
     let mut start = HEADER;
     for (entries, records) in directory.chunks_exact(PART).zip(parts(b)) {
@@ -59,7 +59,7 @@ fn own<'a>(b: &[u8], lent: &'a [u16]) -> Result<&'a Directory, u32> {
         }
         start += RECORD * records.len();
     }
-    Ok(directory)
+    Ok((directory, marked))
 }
 
 /// The same where it is to be kept true.
@@ -114,13 +114,13 @@ pub fn read_by(b: &mut [u8], lent: &mut [u16], kind: u64, key: u64, text: &[u8])
 }
 
 pub fn write_by(b: &[u8], lent: &[u16], kind: u64, key: u64, out: &mut [u8]) -> (u32, u32) {
-    own(b, lent).map_or_else(|number| (number, 0), |directory| write_with(b, directory, kind, key, out))
+    own(b, lent).map_or_else(|number| (number, 0), |(directory, _)| write_with(b, directory, kind, key, out))
 }
 
 fn question_by<const COUNTED: bool>(b: &[u8], lent: &[u16], user: u64, object: u64, request: u64) -> Answer {
-    let directory = own(b, lent)?;
+    let (directory, marked) = own(b, lent)?;
     let asked = asked(user, object, request)?;
-    Ok(answered::<COUNTED>(b, directory, asked))
+    Ok(answered::<COUNTED>(b, directory, asked, marked))
 }
 
 pub fn rights_by(b: &[u8], lent: &[u16], user: u64, object: u64, request: u64) -> (u32, u32) {

@@ -2,14 +2,16 @@
 //! in place, searches by halves, moves bytes with `copy_within`, tests a block without a branch for each record, notes for each
 //! question where the memberships of each name stand, and walks from the user and the object at once, with marks in arrays.
 
+use bound::open;
 use second::drive::{packed, Library};
 
+mod bound;
 mod directory;
 
 pub use directory::{directory, may_by, message_by, read_by, rights_by, write_by, ENTRIES};
 
-const LETTERS: [u8; 8] = *b"MRUPmrup";
-/// How many of the letters are rights, and the mask of those; the denials follow.
+const LETTERS: [u8; 10] = *b"MRUPmrupXN";
+/// How many of the letters are rights, and the mask of those; the denials follow, and then the markers.
 const RIGHTS: usize = 4;
 pub const ALL: u8 = (1 << RIGHTS) - 1;
 const NAME_BITS: usize = 10;
@@ -22,6 +24,7 @@ pub const RECORD: usize = COUNTS + 2 * LETTERS.len();
 const ID: usize = 2;
 const COUNTS: usize = 4;
 const SMALLS: usize = COUNTS + 2 * RIGHTS;
+const MARKERS: usize = SMALLS + 2 * RIGHTS;
 type Record = [u8; RECORD];
 pub const ROOM: usize = 2048;
 pub const GREATEST: usize = HEADER + ROOM * RECORD;
@@ -33,6 +36,9 @@ pub const OLD: usize = 0;
 pub const NEW: usize = 1;
 const HALF: usize = 5;
 pub const MASK: usize = 4;
+/// The first byte has the kind in these bits. X and N of a half follow, each by one bit, from these on.
+const KIND: u8 = 15;
+pub const MARKED: [u32; 2] = [6, 4];
 /// The parts of a block in their order. A kind's number is one more.
 const M: usize = 0;
 const P: usize = 1;
@@ -51,6 +57,14 @@ fn word(b: &[u8], at: usize) -> usize {
 fn four_words(b: &[u8], at: usize) -> u64 {
     u64::from_le_bytes(b[at..at + 8].try_into().expect("eight bytes"))
 }
+
+/// The counts of both markers, X in the lower half.
+fn markers(record: &Record) -> u32 {
+    u32::from_le_bytes(record[MARKERS..].try_into().expect("four bytes"))
+}
+
+/// The half of them that X has.
+const X: u32 = 0xFFFF;
 
 fn put_word(b: &mut [u8], at: usize, n: usize) {
     b[at..at + 2].copy_from_slice(&(n as u16).to_le_bytes());
@@ -85,52 +99,58 @@ fn spot(record: &Record) -> u32 {
 /// The bits that are set in no spot of two names.
 const NO_NAMES: u32 = !((NAMES as u32 - 1) << 16 | (NAMES as u32 - 1));
 
-/// Whether the records of a part are good, in a part where small letters may be counted or in one where they may not. What each
-/// record shows is added up without a branch, four records at a time, and looked at in the end.
-fn good<const DENIALS: bool>(records: &[Record]) -> bool {
-    let (mut names, mut last, mut falls, mut empty, mut denials) = (0, 0, 0, 0u64, 0);
+/// Whether the records of a part are good, and the markers that they count. What each record shows is added up without a branch,
+/// four records at a time, and looked at in the end.
+fn good<const PART: usize>(records: &[Record]) -> (bool, u32) {
+    let (mut names, mut last, mut falls, mut empty, mut denials, mut marked) = (0, 0, 0, 0u64, 0, 0);
     let mut look = |record: &Record| {
-        let (spot, capitals, smalls) = (spot(record), four_words(record, COUNTS), four_words(record, SMALLS));
+        let (spot, capitals, smalls, markers) =
+            (spot(record), four_words(record, COUNTS), four_words(record, SMALLS), markers(record));
         names |= spot;
         falls += u32::from(spot <= last);
         last = spot;
-        empty += u64::from(if DENIALS { capitals | smalls } else { capitals } == 0);
-        denials |= if DENIALS { 0 } else { smalls };
+        let counted = match PART {
+            M => capitals | u64::from(markers),
+            P => capitals | smalls,
+            _ => capitals,
+        };
+        empty += u64::from(counted == 0);
+        denials |= if PART == P { 0 } else { smalls };
+        marked |= markers;
     };
     let (fours, rest) = records.as_chunks::<4>();
     fours.iter().for_each(|four| four.iter().for_each(&mut look));
     rest.iter().for_each(look);
     // the first record is above none, and where its names are both 0 it was counted
     let first = records.first().is_some_and(|record| spot(record) == 0);
-    names & NO_NAMES == 0 && falls <= first.into() && empty == 0 && denials == 0
+    let fair = names & NO_NAMES == 0 && falls <= first.into() && empty == 0 && denials == 0;
+    (fair && (PART == M || marked == 0), marked)
 }
 
-/// 0 for a good block, else 1 or 2.
-pub fn tested(b: &[u8]) -> u32 {
+/// Whether M records of a good block count X; else 1 or 2.
+fn sound(b: &[u8]) -> Result<bool, u32> {
     if b.len() < HEADER || b.len() > GREATEST {
-        return 1;
+        return Err(1);
     }
     let at = bounds(b);
     let header = [0, HEADER, place(at[1]), place(at[2]), place(at[3])];
     let differ = (0..5).fold(0, |differ, k| differ | (word(b, 6 + 2 * k) ^ header[k]));
     if differ != 0 || place(at[3]) > b.len() {
-        return 2;
+        return Err(2);
     }
     let rest = b[place(at[3])..].iter().fold(0, |all, &x| all | x);
     let [m, p, f] = parts(b);
-    if good::<false>(m) && good::<true>(p) && good::<false>(f) && rest == 0 {
-        0
+    let (fair, marked) = good::<M>(m);
+    if fair && good::<P>(p).0 && good::<F>(f).0 && rest == 0 {
+        Ok(marked & X != 0)
     } else {
-        2
+        Err(2)
     }
 }
 
-/// Fails where the block is not good.
-fn sound(b: &[u8]) -> Result<(), u32> {
-    match tested(b) {
-        0 => Ok(()),
-        number => Err(number),
-    }
+/// 0 for a good block, else 1 or 2.
+pub fn tested(b: &[u8]) -> u32 {
+    sound(b).map_or_else(|number| number, |_| 0)
 }
 
 fn put_header(b: &mut [u8], m: usize, p: usize, f: usize) {
@@ -264,32 +284,41 @@ fn add(b: &mut [u8], keys: &mut impl Keep, kind: usize, want: usize, mask: usize
 }
 
 pub fn message(b: &mut [u8], m: &[u8]) -> u32 {
-    sound(b).map_or_else(|number| number, |()| message_with(b, &mut Search, m))
+    sound(b).map_or_else(|number| number, |_| message_with(b, &mut Search, m))
 }
 
-/// A half of a message, by its number: whether it is there, and its bytes.
-fn half(m: &[u8], half: usize) -> (bool, &[u8]) {
-    (m[1] >> half & 1 == 1, &m[half_at(half)..half_at(half + 1)])
+/// A half of a message, by its number: whether it is there, its bytes, and its markers.
+fn half(m: &[u8], half: usize) -> (bool, &[u8], usize) {
+    (m[1] >> half & 1 == 1, &m[half_at(half)..half_at(half + 1)], usize::from(m[0] >> MARKED[half] & 3))
 }
 
 /// The message on a good block, whose records are found in this way.
 fn message_with(b: &mut [u8], keys: &mut impl Keep, m: &[u8]) -> u32 {
-    if m.len() != MESSAGE || !(1..=3).contains(&m[0]) || !(1..=3).contains(&m[1]) {
+    if m.len() != MESSAGE || !(1..=3).contains(&(m[0] & KIND)) || !(1..=3).contains(&m[1]) {
         return 3;
     }
-    let ((old, from), (new, to)) = (half(m, OLD), half(m, NEW));
+    let kind = usize::from(m[0] & KIND) - 1;
+    let ((old, from, unmark), (new, to, mark)) = (half(m, OLD), half(m, NEW));
     if (!old && *from != [0; HALF]) || (!new && *to != [0; HALF]) {
         return 3;
+    }
+    if m[0] > KIND {
+        if kind != M || unmark == 3 || mark == 3 {
+            return 3;
+        }
+        if (!old && unmark != 0) || (!new && mark != 0) {
+            return 3;
+        }
     }
     if [from, to].into_iter().any(|half| word(half, 0) >= NAMES || word(half, ID) >= NAMES) {
         return 4;
     }
-    let kind = usize::from(m[0]) - 1;
     let (less, more) = (usize::from(from[MASK]), usize::from(to[MASK]));
     let bad = |mask: usize| mask == 0 || (kind != P && mask > usize::from(ALL));
     if (old && bad(less)) || (new && bad(more)) {
         return 5;
     }
+    let (less, more) = (less | unmark << (2 * RIGHTS), more | mark << (2 * RIGHTS));
     let (from, to) = (pair(from, 0), pair(to, 0));
     if old {
         let number = take(b, keys, kind, from, less);
@@ -451,9 +480,14 @@ impl Walk {
     }
 }
 
+/// Whether an M record is a membership, and does not count markers alone.
+fn member(record: &Record) -> bool {
+    four_words(record, COUNTS) != 0
+}
+
 /// The rights that all filters leave which bind an object, given its own M records.
 fn filter(filters: &[Record], look: &impl Look, object: usize, own: &[Record]) -> u8 {
-    let groups = own.iter().map(|record| word(record, ID));
+    let groups = own.iter().filter(|&record| member(record)).map(|record| word(record, ID));
     let binding = std::iter::once(object).chain(groups).flat_map(|name| look.filters(filters, name));
     binding.fold(ALL, |all, record| all & mask(record, COUNTS))
 }
@@ -476,13 +510,13 @@ fn asked(user: u64, object: u64, request: u64) -> Result<Asked, u32> {
 }
 
 fn question<const COUNTED: bool>(b: &[u8], user: u64, object: u64, request: u64) -> Answer {
-    sound(b)?;
+    let marked = sound(b)?;
     let asked = asked(user, object, request)?;
-    Ok(answered::<COUNTED>(b, &spans(parts(b)[M]), asked))
+    Ok(answered::<COUNTED>(b, &spans(parts(b)[M]), asked, marked))
 }
 
-/// The answer from a good block, where records are looked up in this way.
-fn answered<const COUNTED: bool>(b: &[u8], look: &impl Look, (user, object, request): Asked) -> (u8, u32) {
+/// The answer from a good block, where records are looked up in this way. Where no M record counts X, nobody is bound.
+fn answered<const COUNTED: bool>(b: &[u8], look: &impl Look, (user, object, request): Asked, marked: bool) -> (u8, u32) {
     let [m, p, f] = parts(b);
     let (start, end) = look.span(object);
     let limit = filter(f, look, object, &m[start.into()..end.into()]) & request;
@@ -499,6 +533,9 @@ fn answered<const COUNTED: bool>(b: &[u8], look: &impl Look, (user, object, requ
                 break;
             }
         }
+    }
+    if held != 0 && marked && !open(m, look, user, object) {
+        held = 0;
     }
     (held, walk.examined)
 }
@@ -575,8 +612,9 @@ fn put_set(b: &[u8], lo: usize, hi: usize, out: &mut [u8]) -> usize {
     out.at
 }
 
-/// No record has a longer text, with the `;` after it: an id of four digits, and each letter with a count of five.
-const LONGEST: usize = 4 + 1 + 6 * LETTERS.len() + 1;
+/// No record has a longer text, with the `;` after it: an id of four digits, and eight letters with a count of five, as no kind
+/// has both denials and markers.
+const LONGEST: usize = 4 + 1 + 6 * (2 * RIGHTS) + 1;
 
 /// Whether the text of the set has at most so many bytes. It is measured only where the number of its records does not tell.
 fn fits(b: &[u8], lo: usize, hi: usize, room: usize) -> bool {
@@ -584,7 +622,7 @@ fn fits(b: &[u8], lo: usize, hi: usize, room: usize) -> bool {
 }
 
 pub fn write(b: &[u8], kind: u64, key: u64, out: &mut [u8]) -> (u32, u32) {
-    sound(b).map_or_else(|number| (number, 0), |()| write_with(b, &Search, kind, key, out))
+    sound(b).map_or_else(|number| (number, 0), |_| write_with(b, &Search, kind, key, out))
 }
 
 /// The text of a set of a good block, whose records are found in this way.
@@ -640,6 +678,9 @@ fn bounded(text: &[u8], at: &mut usize, least: usize, most: usize) -> Result<usi
     number(text, at, most).filter(|&n| n >= least).ok_or_else(|| begun(text, start, least, most))
 }
 
+/// The letters that a record of each part may count.
+const LETTERED: [&[usize]; KINDS] = [&[0, 1, 2, 3, 8, 9], &[0, 1, 2, 3, 4, 5, 6, 7], &[0, 1, 2, 3]];
+
 /// Reads the set of a text, handing each record's id and counts on; how many there are, or the place where it is of no set.
 fn scan(text: &[u8], kind: usize, mut each: impl FnMut(usize, usize, &[usize; LETTERS.len()])) -> Result<usize, usize> {
     let (mut at, mut records, mut least) = (0, 0, 0);
@@ -651,7 +692,7 @@ fn scan(text: &[u8], kind: usize, mut each: impl FnMut(usize, usize, &[usize; LE
         at += 1;
         let mut counts = [0; LETTERS.len()];
         let start = at;
-        for k in 0..if kind == P { LETTERS.len() } else { RIGHTS } {
+        for &k in LETTERED[kind] {
             if text.get(at) == Some(&LETTERS[k]) {
                 at += 1;
                 counts[k] = 1;
@@ -678,7 +719,7 @@ fn scan(text: &[u8], kind: usize, mut each: impl FnMut(usize, usize, &[usize; LE
 }
 
 pub fn read(b: &mut [u8], kind: u64, key: u64, text: &[u8]) -> (u32, u32) {
-    sound(b).map_or_else(|number| (number, 0), |()| read_with(b, &mut Search, kind, key, text))
+    sound(b).map_or_else(|number| (number, 0), |_| read_with(b, &mut Search, kind, key, text))
 }
 
 /// The set of a text put into a good block, whose records are found in this way.

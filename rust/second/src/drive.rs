@@ -1,16 +1,20 @@
 //! Holds a library against the second program: random cases, the result and every element of every lent buffer compared, and
 //! guards around each buffer. A run keeps count of what it met, and says what it should have met and did not.
 
+use crate::bound::RULE;
 use crate::gen::{self, Rng};
 use crate::growth::Growth;
 use crate::sides::{rounds, Sides};
 use crate::{binding, carries, denied, granted, has, letters, meets, numbers, passes, set_of, word, Index};
-use crate::{ALL, CHAIN, COUNTS, DENIALS, HEADER, IDS, KINDS, LAST, LETTERS, M, MESSAGE, NAMES, P, RECORD, RIGHTS};
+use crate::{
+    ALL, CHAIN, COUNTS, DENIALS, HEADER, IDS, KIND, KINDS, LAST, LETTERS, M, MARKERS, MESSAGE, NAMES, P, RECORD, RIGHTS,
+};
 use std::collections::{BTreeMap, BTreeSet};
 use std::fmt::Debug;
 use std::ops::Range;
 
 mod by;
+mod markers;
 
 /// The calls, each returning the refusal's number times 2^32 plus a value, as the C interface does.
 pub trait Library {
@@ -37,11 +41,13 @@ pub fn packed(number: u32, value: u32) -> u64 {
     u64::from(number) << 32 | u64::from(value)
 }
 
-/// No text is longer: an id of four digits, counts of five, and a semicolon after each of the two.
-pub const TEXT: usize = NAMES as usize * (4 + 1 + 6 * LETTERS.len() + 1);
+/// No text is longer: an id of four digits, counts of five for all letters but the markers, which no record has beside denials,
+/// and a semicolon after each of the two.
+pub const TEXT: usize = NAMES as usize * (4 + 1 + 6 * MARKERS.start + 1);
 
-/// With room for so many bytes a record, the library writes a text that it has not measured: it takes an id for five digits too.
-const UNMEASURED: usize = 5 + 1 + 6 * LETTERS.len() + 1;
+/// With room for so many bytes a record, the library writes a text that it has not measured: it takes an id for five digits too,
+/// and every letter as counted.
+const UNMEASURED: usize = 5 + 1 + 6 * 8 + 1;
 const OVER_UNMEASURED: &str = "bytes of room over what is enough for a text that is not measured";
 
 /// How much room that is for a text.
@@ -162,6 +168,7 @@ const TO_MEET: &[(&str, &str, &[i64])] = &[
     ("read", "kind refused at the semicolon after id 1023", &[1, 2, 3]),
     ("read", "kind refused at a letter out of order", &[1, 2, 3]),
     ("read", "kind refused at a small letter", &[1, 3]),
+    ("read", "kind refused at a marker", &[2, 3]),
     ("read", OTHER_BYTE, &[1, 2, 3]),
     ("read", "records more, or fewer", &[-1, 0, 1]),
     ("tested", "number", &[0, 1, 2]),
@@ -182,10 +189,11 @@ const TO_MEET: &[(&str, &str, &[i64])] = &[
     ("count", "number too great, that names a record by its last bits", &[16, 32]),
 ];
 
-/// The lines of `TO_MEET`, and those of the calls by a directory.
+/// The lines of `TO_MEET`, those of the markers and those of the calls by a directory.
 fn to_meet() -> impl Iterator<Item = (&'static str, &'static str, &'static [i64])> {
-    let by = by::TO_MEET.iter().flat_map(|&(calls, what, all)| calls.iter().map(move |&call| (call, what, all)));
-    TO_MEET.iter().copied().chain(by)
+    let more = [markers::TO_MEET, by::TO_MEET].concat().into_iter();
+    let more = more.flat_map(|(calls, what, all)| calls.iter().map(move |&call| (call, what, all)));
+    TO_MEET.iter().copied().chain(more)
 }
 
 /// How often a run met what.
@@ -294,8 +302,9 @@ impl Call<'_> {
 
     /// What a message that got this number did.
     fn saw_message(&mut self, number: u32, m: &[u8], after: &[u8]) {
+        self.saw_markers(number, m);
         if number == 0 {
-            self.saw("kind accepted", m[0].into());
+            self.saw("kind accepted", (m[0] & KIND).into());
             self.saw("flags accepted", m[1].into());
             self.saw("records more", Self::records(after) - Self::records(self.block));
         }
@@ -318,13 +327,18 @@ impl Call<'_> {
         let mut b = Lent::new(self.block);
         let got = lib(self.lib, b.lend(), user, object, request);
         self.agree(got, number, value, &[b.is(self.block)], format!("{user} {object} {request}"))?;
-        Ok((number == 0).then_some((user as u16, object as u16, request, value)))
+        if number != 0 {
+            return Ok(None);
+        }
+        self.saw_who([user as u16, object as u16], request);
+        Ok(Some((user as u16, object as u16, request, value)))
     }
 
     fn rights(&mut self) -> Result<Vec<u8>, String> {
         if let Some((user, object, request, value)) = self.asked(crate::rights, |lib, b, u, o, r| lib.rights(b, u, o, r))? {
             let index = index_of(self.block);
             letters(request).for_each(|right| self.saw_right(&index, user, object, right, value >> right & 1 == 1));
+            self.saw_bound(&index, [user, object], request);
             self.saw_numbers(&index, [user, object], request, value);
         }
         Ok(self.block.to_vec())
@@ -337,10 +351,11 @@ impl Call<'_> {
         let filters: Vec<_> = binding(index, object).collect();
         let stops: Vec<_> = filters.iter().filter(|(_, counts)| !carries(counts, right)).collect();
         let (filtered, long) = (!stops.is_empty(), index.parts[M].len() >= CHAIN);
+        let kept_out = !RULE.open(&index.parts[M], user, object);
         if held {
             self.saw("held, with filters, three or more taken as three", filters.len().min(3) as i64);
         }
-        if filtered && by(CHAIN) {
+        if filtered && !kept_out && by(CHAIN) {
             self.saw("granted, and not in every filter", 1 << right);
             let first = filters.iter().min_by_key(|&&(key, _)| key != object).expect("a filter");
             if carries(first.1, right) {
@@ -350,7 +365,7 @@ impl Call<'_> {
                 self.saw("granted, and stopped by one filter alone, of a group or of the object", (key == object).into());
             }
         }
-        if !held && !filtered && meets(index, user, object, right, CHAIN, denied) {
+        if !held && !filtered && !kept_out && meets(index, user, object, right, CHAIN, denied) {
             self.saw("not granted for a denial alone", 1 << right);
         }
         if held && user == object {
@@ -358,7 +373,7 @@ impl Call<'_> {
         }
         let sides = Sides::new(index, user, object, right);
         for side in 0..2 {
-            if !held && !filtered && long && sides.joined(side, &sides.names_within(side, CHAIN + 1)) {
+            if !held && !filtered && !kept_out && long && sides.joined(side, &sides.names_within(side, CHAIN + 1)) {
                 self.saw("not granted but by a chain of 33 records, for user or object", side as i64);
             }
             if held {
@@ -467,9 +482,15 @@ impl Call<'_> {
         Ok(self.block.to_vec())
     }
 
+    /// The number of a kind, a good one mostly; now and then one with the bit of a marker, as messages alone may have it.
+    fn kind(&mut self) -> u64 {
+        let marker = if self.rng.one_in(30) { (1 + u64::from(KIND)) << self.rng.below(4) } else { 0 };
+        gen::number(self.rng, KINDS as u64 + 1) | marker
+    }
+
     /// A kind and a key, good ones mostly.
     fn set(&mut self) -> (u64, u64) {
-        (gen::number(self.rng, KINDS as u64 + 1), gen::number(self.rng, NAMES.into()))
+        (self.kind(), gen::number(self.rng, NAMES.into()))
     }
 
     /// An accepted set of the kind, with a text or with none.
@@ -609,6 +630,7 @@ fn wrong_in_letters(word: &[u8], byte: u8, part: usize) -> &'static str {
         _ if count == b"1" => "kind refused at the end of a count of 1",
         b';' => "kind refused at the semicolon after id 1023",
         _ if part != P && LETTERS[DENIALS].contains(&byte) => "kind refused at a small letter",
+        _ if part != M && LETTERS[MARKERS].contains(&byte) => "kind refused at a marker",
         _ if LETTERS.contains(&byte) => "kind refused at a letter out of order",
         _ => OTHER_BYTE,
     }
@@ -643,7 +665,7 @@ impl Call<'_> {
     }
 
     fn size(&mut self) -> Result<Vec<u8>, String> {
-        let kind = gen::number(self.rng, KINDS as u64 + 1);
+        let kind = self.kind();
         let at = 2 * (kind as usize).wrapping_sub(1).min(KINDS - 1);
         let bytes = self.front(&(at..at + 2));
         let second = crate::size(&bytes, kind);

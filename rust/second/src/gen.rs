@@ -1,9 +1,13 @@
 //! Seeded cases: good blocks of every shape, damage of every kind, and calls that provoke each refusal on purpose.
 
 use crate::{has, lettered, letters, text, Counts, Index};
-use crate::{ALL, CHAIN, COUNTS, DENIALS, F, FLAGS, GREATEST, HALF, HALVES, HEADER, KINDS, LAST, LETTERS};
-use crate::{ENTRIES, M, MESSAGE, NAMES, P, PART_ENTRIES, RECORD, RIGHTS, ROOM};
+use crate::{ALL, CHAIN, COUNTS, F, FLAGS, GREATEST, HALF, HALVES, HEADER, KIND, KINDS, LAST, LETTERS, MARKED, MARKERS};
+use crate::{ENTRIES, M, MESSAGE, N, NAMES, P, PART_ENTRIES, RECORD, RIGHTS, ROOM};
 use std::collections::BTreeMap;
+
+mod firms;
+
+use firms::firms;
 
 /// A small seeded generator (splitmix64).
 pub struct Rng(pub u64);
@@ -40,10 +44,11 @@ fn count(rng: &mut Rng) -> u16 {
     }
 }
 
-fn counts(rng: &mut Rng, kind: usize) -> Counts {
+/// The counts of a record. Of the M records one in so many has markers, and none where that is 0.
+fn counts(rng: &mut Rng, kind: usize, marked: u64) -> Counts {
     let mut counts = Counts::default();
     let sparse = rng.pick(&[1, 2, 2, 4]);
-    let letters: Vec<usize> = lettered(kind).collect();
+    let letters: Vec<usize> = lettered(kind).filter(|k| !MARKERS.contains(k)).collect();
     for &k in &letters {
         if rng.one_in(sparse) {
             counts[k] = count(rng);
@@ -52,36 +57,57 @@ fn counts(rng: &mut Rng, kind: usize) -> Counts {
     if counts == Counts::default() {
         counts[rng.pick(&letters)] = 1;
     }
+    if kind == M && marked > 0 && rng.one_in(marked) {
+        mark(rng, &mut counts);
+    }
     counts
 }
 
-/// A record with names from a pool of so many.
-fn insert(rng: &mut Rng, index: &mut Index, pool: u64) {
+/// Counts one marker or both, in every third record as often as can be, and in every fourth one nothing else.
+fn mark(rng: &mut Rng, counts: &mut Counts) {
+    if rng.one_in(4) {
+        *counts = Counts::default();
+    }
+    for k in letters((1 + rng.below(3)) << MARKERS.start) {
+        counts[k] = if rng.one_in(3) { u16::MAX } else { count(rng) };
+    }
+}
+
+/// What the records of a block are drawn from: names of a pool of so many, and markers in one M record of so many.
+#[derive(Clone, Copy)]
+struct Drawn {
+    pool: u64,
+    marked: u64,
+}
+
+fn insert(rng: &mut Rng, index: &mut Index, from: Drawn) {
     let kind = rng.pick(&[M, M, P, P, F]);
-    let name = (name(rng, pool), name(rng, pool));
-    let counts = counts(rng, kind);
+    let name = (name(rng, from.pool), name(rng, from.pool));
+    let counts = counts(rng, kind, from.marked);
     index.parts[kind].insert(name, counts);
 }
 
 /// A block as long as it may be, full but for two places at most.
 fn largest(rng: &mut Rng) -> Index {
     let mut index = Index::empty(GREATEST);
-    let (pool, records) = (rng.pick(&[64, NAMES.into()]), ROOM - rng.pick(&[0, 0, 1, 2]));
+    let (from, records) =
+        (Drawn { pool: rng.pick(&[64, NAMES.into()]), marked: rng.pick(&[0, 0, 8]) }, ROOM - rng.pick(&[0, 0, 1, 2]));
     if !rng.one_in(3) {
         ring(rng, &mut index, 400);
     }
     while index.records() < records {
-        insert(rng, &mut index, pool);
+        insert(rng, &mut index, from);
     }
     index
 }
 
-/// A good block. Names come from a small pool, so that chains, loops and shared records are common.
+/// A good block. Names come from a small pool, so that chains, loops and shared records are common. Every other block has no
+/// markers but those that firms have.
 pub fn index(rng: &mut Rng) -> Index {
     if rng.one_in(120) {
         return largest(rng);
     }
-    let pool = rng.pick(&[2, 4, 8, 24, 100, NAMES.into()]);
+    let from = Drawn { pool: rng.pick(&[2, 4, 8, 24, 100, NAMES.into()]), marked: rng.pick(&[0, 0, 0, 2, 4, 8]) };
     let records = match rng.below(10) {
         0 => 0,
         1..=5 => rng.below(12),
@@ -90,9 +116,11 @@ pub fn index(rng: &mut Rng) -> Index {
     };
     let mut index = Index::empty(0);
     for _ in 0..records {
-        insert(rng, &mut index, pool);
+        insert(rng, &mut index, from);
     }
-    if rng.one_in(6) {
+    if rng.one_in(3) {
+        firms(rng, &mut index);
+    } else if rng.one_in(4) {
         chain(rng, &mut index);
     }
     if rng.one_in(12) {
@@ -101,6 +129,9 @@ pub fn index(rng: &mut Rng) -> Index {
     if rng.one_in(12) {
         let besides = rng.below(4);
         ring(rng, &mut index, besides);
+    }
+    if rng.one_in(16) {
+        memberships_alone(&mut index);
     }
     let spare = match rng.below(6) {
         0 | 1 => 0,
@@ -113,6 +144,14 @@ pub fn index(rng: &mut Rng) -> Index {
     index
 }
 
+/// Leaves M records alone, of which the last, and so the last bytes of all records, counts N as often as can be.
+fn memberships_alone(index: &mut Index) {
+    index.parts[P..].fill_with(Default::default);
+    if let Some(mut last) = index.parts[M].last_entry() {
+        last.get_mut()[N] = u16::MAX;
+    }
+}
+
 fn name(rng: &mut Rng, pool: u64) -> u16 {
     if rng.one_in(16) {
         rng.pick(&[0, NAMES - 1])
@@ -121,7 +160,7 @@ fn name(rng: &mut Rng, pool: u64) -> u16 {
     }
 }
 
-/// Where a chain, a fan or a ring starts, and the name on the other side.
+/// Where a chain, a fan, a ring or a user of a firm starts, and the name on the other side.
 const START: u16 = 100;
 const OTHER: u16 = 9;
 
@@ -166,7 +205,7 @@ fn ring(rng: &mut Rng, index: &mut Index, besides: u64) {
     for n in 0..names {
         let (name, next) = (START + 1 + n, START + 1 + (n + 1) % names);
         for _ in 0..besides {
-            let (id, counts) = (rng.below(NAMES.into()) as u16, counts(rng, M));
+            let (id, counts) = (rng.below(NAMES.into()) as u16, counts(rng, M, 0));
             index.parts[M].insert((name, id), counts);
         }
         for start in [START, OTHER] {
@@ -200,7 +239,7 @@ pub fn damage(rng: &mut Rng, block: &mut Vec<u8>) {
     let records = block.len().saturating_sub(HEADER) / RECORD;
     let field = |rng: &mut Rng| 2 * rng.below(HEADER as u64 / 2) as usize;
     let record = |rng: &mut Rng| HEADER + RECORD * rng.below(records.max(1) as u64) as usize;
-    match rng.below(14) {
+    match rng.below(15) {
         0 => block.truncate(rng.below(HEADER as u64) as usize),
         1 => block.resize(GREATEST + 1 + rng.below(3) as usize, 0),
         2 => block.truncate(block.len() - 1),
@@ -237,11 +276,12 @@ pub fn damage(rng: &mut Rng, block: &mut Vec<u8>) {
             let at = record(rng);
             block[at + COUNTS..at + RECORD].fill(0);
         }
-        11 if records > 0 => {
-            let at = record(rng) + COUNTS + 2 * DENIALS.start + rng.below(2 * DENIALS.len() as u64) as usize;
+        11 | 12 if records > 0 => {
+            // denials and markers: a record may have one of the two at most
+            let at = record(rng) + COUNTS + 2 * RIGHTS + rng.below(2 * (LETTERS.len() - RIGHTS) as u64) as usize;
             block[at] = 1;
         }
-        12 => {
+        13 => {
             let last = block.len() - 1;
             block[last] = 1;
         }
@@ -267,13 +307,44 @@ fn known(rng: &mut Rng, index: &Index, kind: usize) -> (u16, u16) {
     }
 }
 
-/// The mask of some letters, in the byte that a half has for it.
-fn masked(letters: impl Iterator<Item = usize>) -> u8 {
-    letters.map(|k| 1u64 << k).sum::<u64>() as u8
+/// The mask of some letters.
+fn masked(letters: impl Iterator<Item = usize>) -> u64 {
+    letters.map(|k| 1 << k).sum()
+}
+
+/// The byte of a half's mask: mostly of letters that its record counts, if it counts some.
+fn byte_of_mask(rng: &mut Rng, kind: usize, counted: u64) -> u8 {
+    let mask = counted as u8;
+    if mask == 0 || rng.one_in(4) {
+        return 1 + rng.below(masked(lettered(kind)) & u64::from(u8::MAX)) as u8;
+    }
+    (mask & rng.bits() as u8).max(mask & mask.wrapping_neg())
+}
+
+/// The markers of a half, a bit for each: none every other time, else one that its record counts, any one, or all that it counts.
+fn markers_of_half(rng: &mut Rng, counted: u64) -> u8 {
+    let counted = (counted >> MARKERS.start) as u8;
+    match rng.below(6) {
+        0 => rng.pick(&[1, 2]),
+        1 => counted,
+        2 if counted == 3 => rng.pick(&[1, 2]),
+        2 => counted,
+        _ => 0,
+    }
+}
+
+/// A record for a half to speak of: of the M records every third time one with markers, if there are some.
+fn spoken_of(rng: &mut Rng, index: &Index, kind: usize) -> (u16, u16) {
+    let marked = index.parts[kind].iter().filter(|(_, counts)| counts[MARKERS] != [0, 0]);
+    let marked: Vec<(u16, u16)> = marked.map(|(&name, _)| name).collect();
+    if marked.is_empty() || !rng.one_in(3) {
+        return known(rng, index, kind);
+    }
+    rng.pick(&marked)
 }
 
 pub fn message(rng: &mut Rng, index: &Index) -> Vec<u8> {
-    let kind = rng.below(KINDS as u64) as usize;
+    let kind = rng.pick(&[M, M, P, F]);
     let flags = 1 + rng.below(FLAGS.into()) as u8;
     let mut m = vec![kind as u8 + 1, flags];
     let mut last = None;
@@ -282,19 +353,25 @@ pub fn message(rng: &mut Rng, index: &Index) -> Vec<u8> {
             m.extend([0; HALF]);
             continue;
         }
-        let name = last.filter(|_| rng.one_in(2)).unwrap_or_else(|| known(rng, index, kind));
+        let name = last.filter(|_| rng.one_in(2)).unwrap_or_else(|| spoken_of(rng, index, kind));
         last = Some(name);
-        let counted = index.parts[kind].get(&name).map(|c| masked((0..c.len()).filter(|&k| c[k] > 0)));
-        let mask = match counted {
-            Some(mask) if !rng.one_in(4) => (mask & rng.bits() as u8).max(mask & mask.wrapping_neg()),
-            _ => 1 + rng.below(masked(lettered(kind)).into()) as u8,
-        };
+        let counted = index.parts[kind].get(&name).map_or(0, |c| masked((0..c.len()).filter(|&k| c[k] > 0)));
         m.extend(name.0.to_le_bytes());
         m.extend(name.1.to_le_bytes());
-        m.push(mask);
+        m.push(byte_of_mask(rng, kind, counted));
+        if kind == M {
+            m[0] |= markers_of_half(rng, counted) << MARKED[side];
+        }
     }
-    let half = HALVES + HALF * rng.below(2) as usize;
-    match rng.below(24) {
+    damage_message(rng, &mut m);
+    m
+}
+
+/// Every other message gets one fault, of any kind that a message can have; now and then it is none.
+fn damage_message(rng: &mut Rng, m: &mut Vec<u8>) {
+    let side = rng.below(2) as usize;
+    let (half, marker) = (HALVES + HALF * side, rng.pick(&[1, 2]) << MARKED[side]);
+    match rng.below(30) {
         0 => m[0] = rng.pick(&[0, KINDS as u8 + 1, 255]),
         1 => m[1] = rng.pick(&[0, FLAGS + 1, 7]),
         2 => m.truncate(rng.below(MESSAGE as u64) as usize),
@@ -303,9 +380,15 @@ pub fn message(rng: &mut Rng, index: &Index) -> Vec<u8> {
         5 | 6 => m[half + rng.pick(&[1, 3])] = (NAMES >> 8) as u8,
         7 | 8 => m[half + HALF - 1] = rng.pick(&[0, ALL as u8 + 1, u8::MAX]),
         9 => m[rng.below(HALVES as u64) as usize] = rng.bits() as u8,
+        10 => m[0] = m[0] & !KIND | rng.pick(&[0, KINDS as u8 + 1, KIND]),
+        11 => m[0] ^= marker,
+        12 => m[0] |= 3 << MARKED[side],
+        13 => {
+            m[0] = (1 + M as u8) | marker;
+            m[half + HALF - 1] = 0;
+        }
         _ => {}
     }
-    m
 }
 
 /// A number from the caller: mostly fair, sometimes just past the limit, sometimes one that narrows to a fair one.
@@ -345,13 +428,13 @@ fn before(rng: &mut Rng, index: &Index, mut name: u16) -> u64 {
     name.into()
 }
 
-/// A user and an object: mostly such that a P record may grant something between them. Where a chain, a fan or a ring starts,
-/// every other question is asked from there.
+/// A user and an object: mostly such that a P record may grant something between them. Where a chain, a fan, a ring or a user of a
+/// firm starts, every other question is asked from there.
 pub fn question(rng: &mut Rng, index: &Index) -> (u64, u64) {
     let grants = &index.parts[P];
     if index.parts[M].keys().any(|record| record.0 == START) && rng.one_in(2) {
         let [start, other] = [START, OTHER].map(u64::from);
-        return rng.pick(&[(start, other), (other, start)]);
+        return rng.pick(&[(start, other), (start, other), (other, start)]);
     }
     let any = |rng: &mut Rng| if rng.one_in(6) { rng.pick(&[OTHER, START]).into() } else { number(rng, NAMES.into()) };
     if grants.is_empty() || rng.one_in(4) {
@@ -396,7 +479,7 @@ fn another(rng: &mut Rng, index: &Index) -> Index {
     let record = known(rng, index, kind);
     if other.parts[kind].remove(&record).is_none() {
         for _ in 0..rng.pick(&[1, 1, 1, 5]) {
-            insert(rng, &mut other, NAMES.into());
+            insert(rng, &mut other, Drawn { pool: NAMES.into(), marked: 4 });
         }
     }
     other
@@ -437,11 +520,11 @@ pub fn set_text(rng: &mut Rng, index: &Index, kind: usize) -> Vec<u8> {
         let part = &index.parts[kind];
         set.extend(part.range((key, 0)..=(key, u16::MAX)).map(|(&(_, id), &c)| (id, c)));
     }
-    let other = if rng.one_in(8) { P } else { kind };
+    let other = if rng.one_in(8) { rng.pick(&[M, P]) } else { kind };
     for _ in 0..rng.pick(&[0, 1, 2, 5, 40]) {
         let id = name(rng, NAMES.into());
         let kind = rng.pick(&[kind, kind, other]);
-        let counts = counts(rng, kind);
+        let counts = counts(rng, kind, 3);
         set.insert(id, counts);
     }
     let mut text = text(&set);
@@ -468,7 +551,7 @@ fn damage_text(rng: &mut Rng, text: &mut Vec<u8>) {
         6 => text.truncate(at),
         7 if at + 1 < text.len() => text.swap(at, at + 1),
         8 => text.insert(after(text, u8::is_ascii_digit), rng.pick(b"0123456789")),
-        9 | 10 => text.insert(after(text, u8::is_ascii_alphabetic), rng.pick(b"0111MU")),
+        9 | 10 => text.insert(after(text, u8::is_ascii_alphabetic), rng.pick(b"0111MUXN")),
         _ => text.extend([b';', b'9', b';', rng.pick(&LETTERS)]),
     }
 }
@@ -481,13 +564,15 @@ pub struct Tried {
 }
 
 const fn after(head: &'static str) -> Tried {
-    Tried { head, bytes: b"01234569;MPm", most: 3 }
+    Tried { head, bytes: b"01234569;MPmXN", most: 3 }
 }
 
-/// Short texts of the digits of 1023 and 1024, a semicolon, two letters, a small one, and a byte that is in no text; then what
-/// goes on, with more digits, from heads after which ids, counts and letters come to their ends.
-pub const TRIED: [Tried; 8] = [
+/// Short texts of the digits of 1023 and 1024, a semicolon, two letters, a small one, and a byte that is in no text; the letters of
+/// a record, markers too, with small counts; then what goes on, with more digits, from heads after which ids, counts and letters
+/// come to their ends.
+pub const TRIED: [Tried; 11] = [
     Tried { head: "", bytes: b"01234;MRmx", most: 5 },
+    Tried { head: "3;", bytes: b"12;MPmXN", most: 4 },
     after("3;M6553"),
     after("102"),
     after("99;M;"),
@@ -495,6 +580,8 @@ pub const TRIED: [Tried; 8] = [
     after("1021;M;10"),
     after("1022;M2;102"),
     after("1023;MUP"),
+    after("3;MX6553"),
+    after("1023;MX2N"),
 ];
 
 impl Tried {

@@ -6,6 +6,7 @@ use std::collections::{BTreeMap, BTreeSet};
 use std::ops::Range;
 use std::sync::LazyLock;
 
+mod bound;
 mod directory;
 pub mod drive;
 mod examined;
@@ -13,17 +14,22 @@ pub mod gen;
 mod growth;
 mod sides;
 
+use bound::{member, RULE};
 pub use directory::{directory, may_by, message_by, read_by, rights_by, write_by, ENTRIES, PART_ENTRIES};
 use examined::examined;
 
-/// The letters that a record counts, in their order: the rights, then the denial of each.
-pub const LETTERS: [u8; 8] = *b"MRUPmrup";
+/// The letters that a record counts, in their order: the rights, the denial of each, then the markers.
+pub const LETTERS: [u8; 10] = *b"MRUPmrupXN";
 /// How many of the letters are rights.
 pub const RIGHTS: usize = 4;
 /// The mask of all rights.
 pub const ALL: u64 = (1 << RIGHTS) - 1;
 /// Which of the letters are denials: one for each right, in the order of the rights.
 pub const DENIALS: Range<usize> = RIGHTS..2 * RIGHTS;
+/// Which of them are markers: X, which makes a group exclusive, and N, by which a membership is passed over for that.
+pub const MARKERS: Range<usize> = 2 * RIGHTS..LETTERS.len();
+pub const X: usize = MARKERS.start;
+pub const N: usize = X + 1;
 /// Names are below this number.
 pub const NAMES: u16 = 1024;
 /// How many records a chain may have.
@@ -52,6 +58,10 @@ pub const HALVES: usize = 2;
 pub const HALF: usize = 5;
 /// The flags of a message, all of them: one for each half, 1 for the previous one and 2 for the new one.
 pub const FLAGS: u8 = 1 | 2;
+/// The first byte of a message has the kind in these bits. From these on, for the previous half and for the new one, it has a
+/// bit for each marker, in their order.
+pub const KIND: u8 = 15;
+pub const MARKED: [u32; 2] = [6, 4];
 
 /// The parts of a block in their order. A kind's number is one more.
 pub const M: usize = 0;
@@ -81,9 +91,11 @@ fn sized(block: &[u8]) -> bool {
     (HEADER..=GREATEST).contains(&block.len())
 }
 
-/// The letters that a record of the kind may count, by their numbers: a denial in P only.
+/// The letters that a record of the kind may count, by their numbers: a denial in P only, a marker in M only.
 fn lettered(kind: usize) -> impl Iterator<Item = usize> {
-    (0..LETTERS.len()).filter(move |k| kind == P || !DENIALS.contains(k))
+    let denials = DENIALS.filter(move |_| kind == P);
+    let markers = MARKERS.filter(move |_| kind == M);
+    (0..RIGHTS).chain(denials).chain(markers)
 }
 
 /// Whether a record of the kind may have these counts: some letter, and none that the kind may not count.
@@ -176,13 +188,21 @@ pub fn make(block: &[u8]) -> (u32, Vec<u8>) {
     (0, Index::empty(block.len()).encode())
 }
 
+/// A half of a message: its record, and the mask of its letters, with the markers behind those that the byte has.
 struct Half {
     name: (u16, u16),
+    byte: u8,
     mask: u64,
 }
 
-fn half(bytes: &[u8]) -> Half {
-    Half { name: (word(bytes, 0), word(bytes, 2)), mask: bytes[4].into() }
+fn half(bytes: &[u8], markers: u8) -> Half {
+    let byte = bytes[HALF - 1];
+    Half { name: (word(bytes, 0), word(bytes, 2)), byte, mask: u64::from(byte) | u64::from(markers) << MARKERS.start }
+}
+
+/// The markers of a half by its number, a bit for each, in the first byte of a message.
+fn markers(first: u8, half: usize) -> u8 {
+    first >> MARKED[half] & ((1 << MARKERS.len()) - 1)
 }
 
 /// Whether a message with these flags has a half, by its number: 0 is the previous one, 1 the new one.
@@ -203,14 +223,18 @@ fn apply(index: &mut Index, message: &[u8]) -> Result<(), u32> {
     if message.len() != MESSAGE {
         return Err(3);
     }
-    let (kind, flags) = (part_of(message[0].into())?, message[1]);
+    let (kind, flags) = (part_of((message[0] & KIND).into())?, message[1]);
     if flags == 0 || flags > FLAGS {
         return Err(3);
     }
     let mut halves = [None, None];
     for (side, (slot, bytes)) in halves.iter_mut().zip(message[HALVES..].chunks(HALF)).enumerate() {
+        let markers = markers(message[0], side);
+        if markers.count_ones() > u32::from(kind == M && has(flags, side)) {
+            return Err(3);
+        }
         if has(flags, side) {
-            *slot = Some(half(bytes));
+            *slot = Some(half(bytes, markers));
         } else if bytes != [0; HALF] {
             return Err(3);
         }
@@ -219,7 +243,7 @@ fn apply(index: &mut Index, message: &[u8]) -> Result<(), u32> {
     if present().any(|h| h.name.0 >= NAMES || h.name.1 >= NAMES) {
         return Err(4);
     }
-    if present().any(|h| h.mask == 0 || (kind != P && h.mask > ALL)) {
+    if present().any(|h| h.byte == 0 || (kind != P && u64::from(h.byte) > ALL)) {
         return Err(5);
     }
     let room = index.room();
@@ -277,7 +301,12 @@ fn denied(counts: &Counts, right: usize) -> bool {
 
 /// The names that a chain of at most `limit` M records leads to from `start`, each record with the right.
 fn reached(memberships: &Part, start: u16, right: usize, limit: usize) -> BTreeSet<u16> {
-    let links: Vec<(u16, u16)> = memberships.iter().filter(|(_, c)| carries(c, right)).map(|(&n, _)| n).collect();
+    led(memberships, start, limit, |counts| carries(counts, right))
+}
+
+/// The same of any M records that are such.
+fn led(memberships: &Part, start: u16, limit: usize, such: impl Fn(&Counts) -> bool) -> BTreeSet<u16> {
+    let links: Vec<(u16, u16)> = memberships.iter().filter(|(_, c)| such(c)).map(|(&n, _)| n).collect();
     let mut names = BTreeSet::from([start]);
     for _ in 0..limit {
         let next: Vec<u16> = links.iter().filter(|(key, _)| names.contains(key)).map(|&(_, id)| id).collect();
@@ -290,9 +319,9 @@ fn reached(memberships: &Part, start: u16, right: usize, limit: usize) -> BTreeS
     names
 }
 
-/// The F records that bind an object: those whose key is the object, or is named by an M record of the object.
+/// The F records that bind an object: those whose key is the object, or a group that the object is a member of.
 fn binding(index: &Index, object: u16) -> impl Iterator<Item = (u16, &Counts)> {
-    let binds = move |name: u16| name == object || index.parts[M].contains_key(&(object, name));
+    let binds = move |name: u16| name == object || index.parts[M].get(&(object, name)).is_some_and(member);
     index.parts[F].iter().map(|(&(key, _), counts)| (key, counts)).filter(move |&(key, _)| binds(key))
 }
 
@@ -318,7 +347,7 @@ fn granted(index: &Index, user: u16, object: u16, right: usize, limit: usize) ->
 }
 
 fn holds(index: &Index, user: u16, object: u16, right: usize) -> bool {
-    passes(index, object, right) && granted(index, user, object, right, CHAIN)
+    passes(index, object, right) && granted(index, user, object, right, CHAIN) && RULE.open(&index.parts[M], user, object)
 }
 
 /// A name that the caller gave.
@@ -544,6 +573,8 @@ pub fn standing(input: &[u8]) -> Vec<u8> {
     printed
 }
 
+#[cfg(test)]
+mod marked;
 #[cfg(test)]
 mod places;
 #[cfg(test)]

@@ -4,35 +4,47 @@ use super::*;
 use crate::gen::Rng;
 use crate::growth::Growth;
 
-/// A block with room for `room` records, and records given as part, key, id and mask, each letter counted once.
-fn block(room: usize, records: &[(usize, u16, u16, u8)]) -> Vec<u8> {
+/// A record: its part, key, id and mask.
+pub type Record = (usize, u16, u16, u64);
+
+/// A block with room for `room` records, and these records, each letter counted once.
+pub fn block(room: usize, records: &[Record]) -> Vec<u8> {
     let mut index = Index::empty(HEADER + RECORD * room);
     for &(part, key, id, mask) in records {
         let counts = index.parts[part].entry((key, id)).or_default();
-        letters(mask.into()).for_each(|k| counts[k] += 1);
+        letters(mask).for_each(|k| counts[k] += 1);
     }
     index.encode()
 }
 
-/// A message of permissions: what the statement said before, and what it says now, as key, id and mask.
-fn permission(previous: Option<(u16, u16, u8)>, new: Option<(u16, u16, u8)>) -> Vec<u8> {
-    let mut m = vec![P as u8 + 1, 0];
+/// What a statement says, as key, id and mask.
+pub type Says = Option<(u16, u16, u64)>;
+
+/// A message of a part: what the statement said before, and what it says now.
+pub fn said(part: usize, previous: Says, new: Says) -> Vec<u8> {
+    let mut m = vec![part as u8 + 1, 0];
     for (side, half) in [previous, new].into_iter().enumerate() {
         let (key, id, mask) = half.unwrap_or_default();
+        m[0] |= ((mask >> MARKERS.start) as u8) << MARKED[side];
         m[1] |= u8::from(half.is_some()) << side;
         m.extend([key, id].map(u16::to_le_bytes).concat());
-        m.push(mask);
+        m.push(mask as u8);
     }
     m
 }
 
+/// A message of permissions.
+fn permission(previous: Says, new: Says) -> Vec<u8> {
+    said(P, previous, new)
+}
+
 /// An empty block with room for so many records.
-fn empty(room: usize) -> Vec<u8> {
+pub fn empty(room: usize) -> Vec<u8> {
     make(&vec![7; HEADER + RECORD * room]).1
 }
 
 /// What an accepted full question gives: the rights held, and the M records examined for the user and for the object.
-fn answer(held: u32, user: u32, object: u32) -> (u32, u32) {
+pub fn answer(held: u32, user: u32, object: u32) -> (u32, u32) {
     (0, held + 16 * user + 262_144 * object)
 }
 
@@ -226,7 +238,7 @@ fn counts_and_room() {
 
 #[test]
 fn lengths() {
-    assert_eq!((RECORD, empty(1).len(), GREATEST), (20, 36, 40_976));
+    assert_eq!((RECORD, empty(1).len(), GREATEST), (24, 40, 49_168));
     assert_eq!(make(&[7; 15]), (1, vec![7; 15]));
     assert_eq!(make(&[7; GREATEST + 1]), (1, vec![7; GREATEST + 1]));
     assert_eq!(Index::decode(&make(&[7; 16]).1).unwrap().room(), 0);
@@ -264,8 +276,7 @@ fn made(block: &[u8]) -> Vec<u16> {
 }
 
 /// Records of all three parts: two of one key, and of the least and the greatest.
-const KEYED: [(usize, u16, u16, u8); 6] =
-    [(M, 5, 1, 2), (M, 5, 9, 2), (M, 8, 1, 2), (P, 0, 3, 15), (F, 1023, 2, 1), (F, 9, 2, 1)];
+const KEYED: [Record; 6] = [(M, 5, 1, 2), (M, 5, 9, 2), (M, 8, 1, 2), (P, 0, 3, 15), (F, 1023, 2, 1), (F, 9, 2, 1)];
 
 #[test]
 fn directory_of_an_empty_block() {

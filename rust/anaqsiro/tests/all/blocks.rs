@@ -1,8 +1,8 @@
 //! The block: its calls, its records, its room.
 
-use anaqsiro::{Block, Half, Kind, Letters, Message, Name, Record, Refusal, Rights, NAMES};
+use anaqsiro::{Block, Half, Kind, Letters, Marker, Message, Name, Record, Refusal, Rights, NAMES};
 use second::gen::{self, Rng};
-use second::{Index, ALL, LETTERS, RIGHTS};
+use second::{Index, ALL, LETTERS, MARKERS, RIGHTS};
 use std::thread;
 
 /// A block with room for so many records.
@@ -42,10 +42,11 @@ fn a_wrong_text_is_cut_at_its_place() {
     }
 }
 
-/// The longest text of all: every name as an id, and every count as long as it can be.
+/// The longest text of all: every name as an id, and every count of a permission as long as it can be.
 #[test]
 fn the_longest_text_is_written() {
-    let record = |id| format!("{id};{}", LETTERS.map(|letter| format!("{}65535", char::from(letter))).concat());
+    let letters: String = LETTERS[..MARKERS.start].iter().map(|&letter| format!("{}65535", char::from(letter))).collect();
+    let record = |id| format!("{id};{letters}");
     let text = (0..NAMES).map(record).collect::<Vec<_>>().join(";");
     let mut block = with_room(NAMES as usize);
     assert_eq!(block.read_set(Kind::Permission, 5, &text), Ok(NAMES as usize));
@@ -97,7 +98,8 @@ fn every_filter_binds() {
 
 #[test]
 fn room_that_can_not_be_is_refused() {
-    assert_eq!((Block::SHORTEST, Block::RECORD, Block::LONGEST), (16, 20, 40_976));
+    assert_eq!((Block::SHORTEST, Block::RECORD, Block::LONGEST), (16, 24, 49_168));
+    assert_eq!((length(1), Block::with_room(1).map(|block| block.into_bytes().len())), (40, Ok(40)));
     assert_eq!((Block::GREATEST_ROOM, Message::BYTES), (2_048, 12));
     let (shortest, one, longest, most) = (Block::SHORTEST, length(1), Block::LONGEST, Block::GREATEST_ROOM);
     for room in [0, 1, most - 1, most] {
@@ -130,7 +132,7 @@ fn a_block_that_is_not_good_is_refused_everywhere() {
     }
     assert_eq!(Block::from_bytes(vec![]).clear(), Err(Refusal::BlockLength));
     assert_eq!(with_room(1).apply([0u8; 3]), Err(Refusal::Form));
-    assert_eq!(format!("{:?}", Block::from_bytes(vec![])), "Block of 0 bytes (refused with 1: block length not 16 to 40,976)");
+    assert_eq!(format!("{:?}", Block::from_bytes(vec![])), "Block of 0 bytes (refused with 1: block length not 16 to 49,168)");
 }
 
 /// The records of a decoded block, in the crate's own words.
@@ -190,9 +192,51 @@ fn a_record_tells_its_letters() {
     let record = block.records().expect("good").next().expect("a record");
     assert_eq!(record.letters().to_string(), "MUp");
     assert_eq!(
-        "MRUPmrupQ;".chars().map(|letter| record.count(letter)).collect::<Vec<_>>(),
-        [1, 0, 3, 0, 0, 0, 0, 65_535, 0, 0]
+        "MRUPmrupXNQ;".chars().map(|letter| record.count(letter)).collect::<Vec<_>>(),
+        [1, 0, 3, 0, 0, 0, 0, 65_535, 0, 0, 0, 0]
     );
+}
+
+/// A record with a marker, and one with nothing else: what each tells, and that the second is no membership.
+#[test]
+fn a_record_tells_its_markers() {
+    let mut block = with_room(3);
+    block.read_set(Kind::Membership, 1, "2;RX3;3;N").expect("room");
+    block.read_set(Kind::Permission, 9, "3;R").expect("room");
+    let records: Vec<Record> = block.records().expect("good").take(2).collect();
+    let told = |record: &Record| (record.letters().to_string(), Marker::ALL.map(|marker| record.count(marker.letter())));
+    assert_eq!(records.iter().map(told).collect::<Vec<_>>(), [("R".to_string(), [3, 0]), ("-".to_string(), [0, 1])]);
+    assert_eq!(records[0].to_string(), "M1 2;RX3");
+    assert_eq!(held(&block, 1), Rights::NONE);
+    block.read_set(Kind::Membership, 1, "3;RN").expect("room");
+    assert_eq!(held(&block, 1), Rights::READ);
+}
+
+/// Two firms share a block: who is bound to one sees its objects and those of no firm, by a directory too.
+#[test]
+fn firms_are_kept_apart() {
+    let mut block = with_room(40);
+    let half = |name, group| Half::new(name, group, Rights::ALL);
+    let (bound, free) = ([(1, 20), (2, 30)], [(3, 20), (5, 20), (6, 30), (7, 40)]);
+    for (name, group) in bound {
+        block.apply(Message::new(Kind::Membership, None, Some(half(name, group).marked(Marker::X)))).expect("room");
+    }
+    for (name, group) in free {
+        block.apply(Message::new(Kind::Membership, None, Some(half(name, group)))).expect("room");
+    }
+    block.read_set(Kind::Permission, 0, "1;R;2;R;3;R;4;R").expect("room");
+    let directed = block.clone().with_directory().expect("good");
+    for (user, open) in [(1, [5, 8]), (2, [6, 8])] {
+        for object in 5..9 {
+            let wanted = Ok(open.contains(&object));
+            assert_eq!(block.may(user, object, Rights::READ), wanted, "{user} {object}");
+            assert_eq!(directed.may(user, object, Rights::READ), wanted, "{user} {object}");
+        }
+    }
+    assert!((3..5).all(|user| (5..9).all(|object| block.may(user, object, Rights::READ) == Ok(true))));
+    let taken = Message::new(Kind::Membership, Some(half(1, 20).marked(Marker::X)), Some(half(1, 20).marked(Marker::N)));
+    block.apply(taken).expect("it stands");
+    assert!((5..9).all(|object| block.may(1, object, Rights::READ) == Ok(true)), "bound no more");
 }
 
 /// The records that name a name, as key, as id, as both: those that the second program finds, and each way is met.

@@ -1,7 +1,7 @@
 //! A block with its directory: the entries, the calls, and that the two stay together.
 
 use crate::blocks::with_room;
-use anaqsiro::{Block, DirectedBlock, Half, Held, Kind, Letters, Message, Name, NotDirected, Refusal, Rights, NAMES};
+use anaqsiro::{Block, DirectedBlock, Half, Held, Kind, Letters, Marker, Message, Name, NotDirected, Refusal, Rights, NAMES};
 use second::gen::Rng;
 use std::panic::{catch_unwind, AssertUnwindSafe};
 use std::thread;
@@ -104,7 +104,7 @@ impl Change {
     fn any(rng: &mut Rng) -> Change {
         let kind = Kind::ALL[rng.below(3) as usize];
         if rng.one_in(4) {
-            let text = ["", "1;M", "0;R;3;U", "1;M;2;R2;1023;P", "3;M1", "4;RM"][rng.below(6) as usize];
+            let text = ["", "1;M", "0;R;3;U", "1;M;2;R2;1023;P", "3;M1", "4;RM", "2;MRUPX", "0;N"][rng.below(8) as usize];
             return Change::Text(kind, any_name(rng), text);
         }
         let (previous, new, flags) = (any_half(rng), any_half(rng), 1 + rng.below(3));
@@ -139,7 +139,9 @@ fn any_name(rng: &mut Rng) -> Name {
 
 fn any_half(rng: &mut Rng) -> Half {
     let most = if rng.one_in(9) { 1 << u8::BITS } else { 4 };
-    Half::new(any_name(rng), rng.below(3), Letters::from_mask(rng.below(most)).expect("a mask"))
+    let half = Half::new(any_name(rng), rng.below(3), Letters::from_mask(rng.below(most)).expect("a mask"));
+    let marker = [Some(Marker::X), Some(Marker::N)].into_iter().find(|_| rng.one_in(8)).flatten();
+    Half { marker, ..half }
 }
 
 /// Changes, the refused ones among them, leave the block and answer as they do without a directory, and leave the block's own.

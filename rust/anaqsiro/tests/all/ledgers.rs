@@ -1,6 +1,6 @@
 //! The ledger, case by case.
 
-use anaqsiro::{Block, Half, Kind, Ledger, Letters, Message, NotTaken, Refusal, Rights, Said, Statement, Taken, Why};
+use anaqsiro::{Block, Half, Kind, Ledger, Letters, Marker, Message, NotTaken, Refusal, Rights, Said, Statement, Taken, Why};
 use second::drive::packed;
 use second::gen::{self, Rng};
 
@@ -344,12 +344,34 @@ fn statements_of_a_record() {
     say("moved", P, on(8)).expect("room");
     ledger.take("one".into(), 3, message("M", "")).expect("held back");
     let of = |kind, key, id| {
-        ledger.statements_of(kind, key, id).map(|(label, letters)| format!("{label} {letters}")).collect::<Vec<_>>()
+        ledger.statements_of(kind, key, id).map(|(label, half)| format!("{label} {}", half.mask)).collect::<Vec<_>>()
     };
     assert_eq!(of(P, 9, 1), ["one RU", "two mu"]);
     assert_eq!((of(Kind::Filter, 9, 1), of(P, 8, 1)), (vec!["other kind R".into()], vec!["moved R".into()]));
     assert_eq!((of(Kind::Membership, 9, 1), of(P, 1, 9), of(P, 65_545, 1)), (vec![], vec![], vec![]));
     assert_eq!((ledger.left("two"), ledger.left("ended"), ledger.left("nobody")), (half("um"), None, None));
+}
+
+/// A marker is part of what a statement leaves, and one that quotes another, or none, does not follow.
+#[test]
+fn markers_are_quoted() {
+    let member = Half::new(1, 2, Rights::ALL);
+    let [x, n] = Marker::ALL.map(|marker| member.marked(marker));
+    let mut ledger: Ledger<&str> = Ledger::with_room(2).expect("room");
+    ledger.say("a", Kind::Membership, Some(x)).expect("room");
+    ledger.say("b", Kind::Membership, Some(n)).expect("room");
+    for quoted in [member, n] {
+        let message = Message::new(Kind::Membership, Some(quoted), None);
+        assert_eq!(ledger.take("a", 2, message), Err(NotTaken::NotQuoted(Some(x))));
+    }
+    let words = NotTaken::NotQuoted(Some(x)).to_string();
+    assert_eq!(words, "its statement left key 1, id 2, MRUPX, and it does not quote that");
+    let of: Vec<_> = ledger.statements_of(Kind::Membership, 1, 2).map(|(label, half)| (*label, half.marker)).collect();
+    assert_eq!((of, lines(&ledger)), (vec![("a", Some(Marker::X)), ("b", Some(Marker::N))], vec!["M1 2;M2R2U2P2XN".into()]));
+    assert_eq!(ledger.take("a", 2, Message::new(Kind::Membership, Some(x), Some(member))), Ok(APPLIED));
+    assert_eq!(lines(&ledger), ["M1 2;M2R2U2P2N"]);
+    let stored: Vec<_> = ledger.statements().map(|(label, said)| (*label, said)).collect();
+    assert_eq!(Ledger::restore(2, stored).expect("room").block(), ledger.block());
 }
 
 #[test]

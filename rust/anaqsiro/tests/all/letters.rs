@@ -1,6 +1,6 @@
 //! Rights and letters, as sets and as text.
 
-use anaqsiro::{Letters, NotLetters, Rights};
+use anaqsiro::{Letters, Marker, NotLetters, Rights};
 use second::ALL;
 
 /// Each mask of rights, and of letters.
@@ -39,6 +39,7 @@ fn texts_of_no_set() {
     assert_eq!("MRm".parse::<Rights>(), Err(NotLetters::NoLetter('m')));
     assert_eq!("MRQ".parse::<Letters>(), Err(NotLetters::NoLetter('Q')));
     assert_eq!("R-".parse::<Letters>(), Err(NotLetters::NoLetter('-')));
+    assert_eq!("MRX".parse::<Letters>(), Err(NotLetters::NoLetter('X')));
     assert_eq!("RMR".parse::<Letters>(), Err(NotLetters::Twice('R')));
     assert_eq!("PURM".parse(), Ok(Rights::ALL));
     assert_eq!("-".parse(), Ok(Letters::NONE));
@@ -80,4 +81,5 @@ fn sets_are_shown() {
     let set = Rights::READ | Letters::NO_UPDATE;
     assert_eq!(format!("{set} {set:?} {set:>4}|{:<4}|", Rights::NONE), "Ru Letters(Ru)   Ru|-   |");
     assert_eq!(format!("{:?}", Rights::ALL), "Rights(MRUP)");
+    assert_eq!(Marker::ALL.map(|marker| marker.to_string()), ["X", "N"]);
 }

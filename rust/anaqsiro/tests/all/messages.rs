@@ -1,6 +1,6 @@
 //! Kinds, halves, messages and refusals.
 
-use anaqsiro::{Block, Half, Kind, Letters, Message, Refusal, Rights, NAMES};
+use anaqsiro::{Block, Half, Kind, Letters, Marker, Message, Refusal, Rights, NAMES};
 use second::drive::packed;
 
 /// The refusal of a number and a value.
@@ -61,10 +61,12 @@ fn every_kind_has_its_number() {
     assert!(Kind::ALL.into_iter().all(|kind| Kind::from_number(kind.number().into()) == Some(kind)));
 }
 
-/// The greatest half that there can be, and the least.
-fn halves() -> [Option<Half>; 3] {
+/// The greatest half that there can be, and the least, with each marker.
+fn halves() -> [Option<Half>; 7] {
     let all = Letters::from_mask(u8::MAX.into()).expect("letters");
-    [None, Some(Half::new(0, 1023, Rights::READ)), Some(Half::new(1023, 0, all))]
+    let (least, greatest) = (Half::new(0, 1023, Rights::READ), Half::new(1023, 0, all));
+    let [x, n] = Marker::ALL.map(|marker| [least, greatest].map(|half| Some(half.marked(marker))));
+    [None, Some(least), Some(greatest), x[0], x[1], n[0], n[1]]
 }
 
 #[test]
@@ -84,6 +86,29 @@ fn a_message_is_taken_apart() {
     assert_eq!(new, Some(Half::new(7, 256, Letters::NO_CREATE)));
     assert_eq!(Message(bytes).to_string(), "M, from key 513, id 3, MU to key 7, id 256, m");
     assert_eq!(Message([9; Message::BYTES]).kind(), None);
+}
+
+/// The bits of the markers in the first byte, as the rules have them, and what is made of bits that are wrong.
+#[test]
+fn markers_stand_beside_the_kind() {
+    let half = Half::new(1, 2, Rights::READ);
+    let [x, n] = Marker::ALL.map(|marker| Some(half.marked(marker)));
+    for (previous, new, first) in
+        [(x, None, 0b0100_0001), (n, None, 0b1000_0001), (None, x, 0b0001_0001), (None, n, 0b0010_0001), (x, n, 0b0110_0001)]
+    {
+        assert_eq!(Message::new(Kind::Membership, previous, new).0[0], first);
+    }
+    assert_eq!(Message::new(Kind::Membership, n, x).to_string(), "M, from key 1, id 2, RN to key 1, id 2, RX");
+    let mut both = Message::new(Kind::Membership, None, x);
+    both.0[0] |= 0b1110_0000;
+    assert_eq!((both.kind(), both.halves()), (Some(Kind::Membership), [None, Some(half)]));
+    let refused = |message| Block::with_room(1).and_then(|mut block| block.apply(message)).err();
+    assert_eq!(refused(both), Some(Refusal::Form));
+    assert_eq!(refused(Message::new(Kind::Permission, None, x)), Some(Refusal::Form));
+    assert_eq!(refused(Message::new(Kind::Filter, n, None)), Some(Refusal::Form));
+    let bare = Half::new(1, 2, Letters::NONE).marked(Marker::X);
+    assert_eq!(refused(Message::new(Kind::Membership, None, Some(bare))), Some(Refusal::Mask));
+    assert_eq!(refused(Message::new(Kind::Membership, x, None)), Some(Refusal::NothingToTake));
 }
 
 #[test]

@@ -60,10 +60,10 @@ fn unseen(block: &Block) -> Vec<usize> {
     found
 }
 
-/// Why a saved block has a checksum: of the single-bit faults in a block, about half give another good block. None of these is
+/// Why a saved block has a checksum: of the single-bit faults in a block, more than half give another good block. None of these is
 /// loaded.
 #[test]
-fn half_of_all_single_faults_are_not_seen_by_the_block() {
+fn most_single_faults_are_not_seen_by_the_block() {
     let block = mill(1_258, 200, 40);
     let (bits, found) = (8 * block.bytes().len(), unseen(&block));
     println!(
@@ -71,7 +71,7 @@ fn half_of_all_single_faults_are_not_seen_by_the_block() {
         found.len(),
         100.0 * found.len() as f64 / bits as f64
     );
-    assert_eq!((bits, found.len()), (239_808, 120_227));
+    assert_eq!((bits, found.len()), (287_744, 160_483));
     let mut saved = block.save().expect("good");
     for &bit in found.iter().step_by(101) {
         flip(&mut saved, 8 * FRONT + bit);
@@ -134,7 +134,7 @@ fn a_good_block_goes_there_and_back() {
     for seed in 0..200 {
         let block = Block::from_bytes(gen::index(&mut Rng(seed)).encode());
         let saved = block.save().expect("good");
-        assert_eq!((saved.len(), &saved[..FRONT]), (FRONT + block.bytes().len() + 4, &b"anaqsiro\x01\0\0\0"[..]));
+        assert_eq!((saved.len(), &saved[..FRONT]), (FRONT + block.bytes().len() + 4, &b"anaqsiro\x02\0\0\0"[..]));
         assert_eq!(Block::load(&saved), Ok(block));
     }
 }
@@ -146,7 +146,7 @@ fn each_reason_has_its_words() {
     let words = [
         "not a saved block",
         "a saved block that was damaged",
-        "a saved block of version 7, not 1",
+        "a saved block of version 7, not 2",
         "a saved block that is refused with 2: block not good",
     ];
     assert_eq!(reasons.map(|why| why.to_string()), words);

@@ -1,9 +1,9 @@
 //! Streams of many statements that arrive shuffled, some messages twice and some late. A tally that is kept here, from what has
 //! arrived alone, says what the block is to be at every moment.
 
-use anaqsiro::{Block, Half, Kind, Ledger, Letters, Message, Refusal, Rights, Taken, Why};
+use anaqsiro::{Block, Half, Kind, Ledger, Letters, Marker, Message, Refusal, Rights, Taken, Why};
 use second::gen::Rng;
-use second::Index;
+use second::{Index, MARKERS};
 use std::collections::{BTreeMap, BTreeSet};
 
 /// A message with its statement and its number there.
@@ -25,11 +25,12 @@ struct Size {
     names: u64,
 }
 
-/// A half of a kind. Names are few, so that statements share records.
+/// A half of a kind, of memberships often with a marker. Names are few, so that statements share records.
 fn any_half(rng: &mut Rng, kind: Kind, names: u64) -> Half {
     let most = if kind == Kind::Permission { u8::MAX } else { Rights::ALL.mask() };
     let mask = Letters::from_mask(1 + rng.below(most.into())).expect("a mask");
-    Half::new(rng.below(names), rng.below(names), mask)
+    let marker = [None, Some(Marker::X), Some(Marker::N)][rng.below(3) as usize].filter(|_| kind == Kind::Membership);
+    Half { marker, ..Half::new(rng.below(names), rng.below(names), mask) }
 }
 
 /// A stream in the order in which it was said: each message quotes what the one before of its statement said.
@@ -104,7 +105,7 @@ fn counted(length: usize, standing: impl Iterator<Item = Says>) -> Vec<u8> {
     for (kind, half) in standing.flatten() {
         let part = &mut index.parts[usize::from(kind.number()) - 1];
         let counts = part.entry((half.key as u16, half.id as u16)).or_default();
-        let mask = u64::from(half.mask.mask());
+        let mask = u64::from(half.mask.mask()) | half.marker.map_or(0, |marker| 1 << (MARKERS.start + marker as usize));
         (0..counts.len()).filter(|k| mask >> k & 1 == 1).for_each(|k| counts[k] += 1);
     }
     index.encode()

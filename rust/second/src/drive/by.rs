@@ -185,6 +185,7 @@ impl Call<'_> {
         if number != 0 {
             return Ok(None);
         }
+        self.saw_who([user as u16, object as u16], request);
         [user, object].into_iter().for_each(|name| self.saw_key(name));
         let filters = binding(&index_of(self.block), object as u16).count();
         self.saw("filters looked up, three or more taken as three", filters.min(3) as i64);

@@ -1,14 +1,19 @@
 //! Shows that the comparison can find a fault: plants one fault at a time in a copy of the plain program, which stands where
 //! the library stands, and runs the comparison on it. Every fault must be caught, and by a wrong answer: a program that stops is
-//! not enough. Run it in `rust/`: faults.
+//! not enough. Run it in `rust/`: faults [WORDS], where only faults are planted that have the words in their names.
 
 use std::fs;
 use std::path::{Path, PathBuf};
 use std::process::{Command, Stdio};
 
+mod markers;
+
 /// What the fault is, the text in plain/src, and what is put in its place.
-const FAULTS: &[(&str, &str, &str)] = &[
-    ("a block that is a byte too short is one that is not good", "if b.len() < HEADER || b.len() > GREATEST {\n        return 1;\n    }\n    let at", "if b.len() + 1 == HEADER {\n        return 2;\n    }\n    if b.len() < HEADER || b.len() > GREATEST {\n        return 1;\n    }\n    let at"),
+type Fault = (&'static str, &'static str, &'static str);
+
+/// The faults but for those of markers.
+const FAULTS: &[Fault] = &[
+    ("a block that is a byte too short is one that is not good", "if b.len() < HEADER || b.len() > GREATEST {\n        return Err(1);\n    }\n    let at", "if b.len() + 1 == HEADER {\n        return Err(2);\n    }\n    if b.len() < HEADER || b.len() > GREATEST {\n        return Err(1);\n    }\n    let at"),
     ("a block that is a byte too long is taken", "b.len() > GREATEST {\n        return 1;\n    }\n    b.fill(0);", "b.len() > GREATEST + 1 {\n        return 1;\n    }\n    b.fill(0);"),
     ("bytes after the end are not looked at", ".fold(0, |all, &x| all | x)", ".fold(0, |all, &x| all | u8::from(x == 255))"),
     ("a record may stand twice", "falls += u32::from(spot <= last);", "falls += u32::from(spot < last);"),
@@ -22,7 +27,7 @@ const FAULTS: &[(&str, &str, &str)] = &[
     ("an update only adds", "        let number = take(b, keys, kind, from, less);", "        let number = if new { 0 } else { take(b, keys, kind, from, less) };"),
     ("a refused message leaves the take applied", "                add(b, keys, kind, from, less);\n", ""),
     ("a record with no counts stays", "    if left == 0 {\n        shift(b, keys, kind, want >> NAME_BITS, i + 1, i);\n    }", "    if left == usize::MAX {\n        shift(b, keys, kind, want >> NAME_BITS, i + 1, i);\n    }"),
-    ("old bytes stay after the end", "        b[end - RECORD * (from - to)..end].fill(0);", "        b[end - RECORD * (from - to)..end - 1].fill(0);"),
+    ("old bytes stay after the end", "        b[end - RECORD * (from - to)..end].fill(0);", "        b[end - RECORD * (from - to)..end - 5].fill(0);"),
     ("a letter without a count may be taken", "word(b, count_at(i, k)) == 0)", "word(b, count_at(i, k)) > MOST)"),
     ("a count wraps", "mask >> k & 1 == 1 && word(b, count_at(i, k)) == MOST", "mask >> k & 1 == 1 && word(b, count_at(i, k)) == MOST - 1"),
     ("the last place is not given", "if bounds(b)[3] == (b.len() - HEADER) / RECORD {", "if bounds(b)[3] + 1 >= (b.len() - HEADER) / RECORD {"),
@@ -54,8 +59,8 @@ const FAULTS: &[(&str, &str, &str)] = &[
     ("only the first filter of each name binds", "take_while(|&record| word(record, 0) == name)", "take_while(|&record| word(record, 0) == name).take(1)"),
     ("only the object's own filters bind", "once(object).chain(groups)", "once(object).chain(groups.take(0))"),
     ("the object's own filters are skipped", "std::iter::once(object).chain(groups).flat_map", "groups.flat_map"),
-    ("the filters of the first group are skipped", "own.iter().map(", "own.iter().skip(1).map("),
-    ("a group binds only by a membership with all rights", "own.iter().map(", "own.iter().filter(|&record| mask(record, COUNTS) == ALL).map("),
+    ("the filters of the first group are skipped", "own.iter().filter(", "own.iter().skip(1).filter("),
+    ("a group binds only by a membership with all rights", "own.iter().filter(|&record| member(record)).map(", "own.iter().filter(|&record| mask(record, COUNTS) == ALL).map("),
     ("the groups' own groups bind too", "filter(f, look, object, &m[start.into()..end.into()])", "filter(f, look, object, &m.iter().copied().filter(|group| word(group, 0) == object || m[start.into()..end.into()].iter().any(|own| word(own, ID) == word(group, 0))).collect::<Vec<_>>())"),
     ("the filters of name 0 bind always", "std::iter::once(object).chain(groups)", "[0, object].into_iter().chain(groups)"),
     ("the filters are skipped", "filter(f, look, object, &m[start.into()..end.into()]) & request", "request"),
@@ -125,10 +130,10 @@ const FAULTS: &[(&str, &str, &str)] = &[
     ("making looks at the length before the block", "    let number = tested(b);\n    if number != 0 {\n        return number;\n    }\n    let Ok", "    if lent.len() != ENTRIES {\n        return 13;\n    }\n    let number = tested(b);\n    if number != 0 {\n        return number;\n    }\n    let Ok"),
     ("making writes into one that it refuses", "    let Ok(directory) = lent.try_into() else { return 13 };", "    if lent.len() != ENTRIES {\n        lent.fill(HEADER as u16);\n    }\n    let Ok(directory) = lent.try_into() else { return 13 };"),
     ("making writes though the block is not good", "        return number;\n    }\n    let Ok", "        lent.fill(HEADER as u16);\n        return number;\n    }\n    let Ok"),
-    ("13 comes before 2", "    sound(b)?;\n    let directory: &Directory = lent.try_into().map_err(|_| 13u32)?;", "    let directory: &Directory = lent.try_into().map_err(|_| 13u32)?;\n    sound(b)?;"),
+    ("13 comes before 2", "    let marked = sound(b)?;\n    let directory: &Directory = lent.try_into().map_err(|_| 13u32)?;", "    let directory: &Directory = lent.try_into().map_err(|_| 13u32)?;\n    let marked = sound(b)?;"),
     ("a directory that is too long is taken", "let directory: &Directory = lent.try_into().map_err(|_| 13u32)?;", "let directory: &Directory = lent.first_chunk().ok_or(13u32)?;"),
-    ("a directory that lacks its last entry is taken", "    let directory: &Directory = lent", "    if lent.len() + 1 == ENTRIES {\n        let mut whole = [word(b, HEADER - 2) as u16; ENTRIES];\n        whole[..ENTRIES - 1].copy_from_slice(lent);\n        return Ok(Box::leak(Box::new(whole)));\n    }\n    let directory: &Directory = lent"),
-    ("the empty directory stands for the block's own", "    let directory: &Directory = lent", "    if lent.is_empty() {\n        let mut whole = [0; ENTRIES];\n        fill(b, &mut whole);\n        return Ok(Box::leak(Box::new(whole)));\n    }\n    let directory: &Directory = lent"),
+    ("a directory that lacks its last entry is taken", "    let directory: &Directory = lent", "    if lent.len() + 1 == ENTRIES {\n        let mut whole = [word(b, HEADER - 2) as u16; ENTRIES];\n        whole[..ENTRIES - 1].copy_from_slice(lent);\n        return Ok((Box::leak(Box::new(whole)), marked));\n    }\n    let directory: &Directory = lent"),
+    ("the empty directory stands for the block's own", "    let directory: &Directory = lent", "    if lent.is_empty() {\n        let mut whole = [0; ENTRIES];\n        fill(b, &mut whole);\n        return Ok((Box::leak(Box::new(whole)), marked));\n    }\n    let directory: &Directory = lent"),
     ("only the first part of a directory is tested", "directory.chunks_exact(PART).zip(parts(b))", "directory.chunks_exact(PART).zip(parts(b)).take(1)"),
     ("the last part of a directory is not tested", "directory.chunks_exact(PART).zip(parts(b))", "directory.chunks_exact(PART).zip(parts(b)).take(2)"),
     ("the first entry of P is not tested", "        if !fits(entries, records, start) {", "        let first = if entries.as_ptr() == directory[PART..].as_ptr() { start as u16 } else { entries[0] };\n        if !fits(&[&[first], &entries[1..]].concat(), records, start) {"),
@@ -143,12 +148,12 @@ const FAULTS: &[(&str, &str, &str)] = &[
     ("a wrong directory is put right and refused", "    own(b, lent)?;\n    lent.try_into().map_err(|_| 13)", "    if own(b, lent) == Err(13) && lent.len() == ENTRIES {\n        fill(b, (&mut *lent).try_into().expect(\"its length\"));\n        return Err(13);\n    }\n    own(b, lent)?;\n    lent.try_into().map_err(|_| 13)"),
     ("3, 4 and 5 of a message come before 13", "    own_mut(b, lent).map_or_else(|number| number, |directory| message_with(b, directory, m))", "    match own_mut(b, lent) {\n        Err(13) => match message_with(&mut b.to_vec(), &mut crate::Search, m) {\n            early @ 3..=5 => early,\n            _ => 13,\n        },\n        Err(number) => number,\n        Ok(directory) => message_with(b, directory, m),\n    }"),
     ("6, 7 and 8 of a message come before 13", "    own_mut(b, lent).map_or_else(|number| number, |directory| message_with(b, directory, m))", "    match own_mut(b, lent) {\n        Err(13) => match message_with(&mut b.to_vec(), &mut crate::Search, m) {\n            late @ 6..=8 => late,\n            _ => 13,\n        },\n        Err(number) => number,\n        Ok(directory) => message_with(b, directory, m),\n    }"),
-    ("3 and 4 of a read come before 13", "    own_mut(b, lent).map_or_else(|number| (number, 0), |directory| read_with(", "    let early = sound(b).and_then(|()| crate::set_bounds(b, &crate::Search, kind, key));\n    early.and_then(|_| own_mut(b, lent)).map_or_else(|number| (number, 0), |directory| read_with("),
+    ("3 and 4 of a read come before 13", "    own_mut(b, lent).map_or_else(|number| (number, 0), |directory| read_with(", "    let early = sound(b).and_then(|_| crate::set_bounds(b, &crate::Search, kind, key));\n    early.and_then(|_| own_mut(b, lent)).map_or_else(|number| (number, 0), |directory| read_with("),
     ("8 and 9 of a read come before 13", "    own_mut(b, lent).map_or_else(|number| (number, 0), |directory| read_with(b, directory, kind, key, text))", "    match own_mut(b, lent) {\n        Err(13) => match read_with(&mut b.to_vec(), &mut crate::Search, kind, key, text) {\n            late @ (8..=9, _) => late,\n            _ => (13, 0),\n        },\n        Err(number) => (number, 0),\n        Ok(directory) => read_with(b, directory, kind, key, text),\n    }"),
-    ("3 and 4 of a write come before 13", "    own(b, lent).map_or_else(|number| (number, 0), |directory| write_with(", "    let early = sound(b).and_then(|()| crate::set_bounds(b, &crate::Search, kind, key));\n    early.and_then(|_| own(b, lent)).map_or_else(|number| (number, 0), |directory| write_with("),
-    ("10 comes before 13", "    own(b, lent).map_or_else(|number| (number, 0), |directory| write_with(b, directory, kind, key, out))", "    match own(b, lent) {\n        Err(13) => match write_with(b, &crate::Search, kind, key, &mut out.to_vec()) {\n            late @ (10, _) => late,\n            _ => (13, 0),\n        },\n        Err(number) => (number, 0),\n        Ok(directory) => write_with(b, directory, kind, key, out),\n    }"),
-    ("4 and 5 of a question come before 13", "    let directory = own(b, lent)?;\n    let asked = asked(user, object, request)?;", "    sound(b)?;\n    let asked = asked(user, object, request)?;\n    let directory = own(b, lent)?;"),
-    ("4 and 5 of a question come before 2", "    let directory = own(b, lent)?;\n    let asked = asked(user, object, request)?;", "    let asked = asked(user, object, request)?;\n    let directory = own(b, lent)?;"),
+    ("3 and 4 of a write come before 13", "    own(b, lent).map_or_else(|number| (number, 0), |(directory, _)| write_with(", "    let early = sound(b).and_then(|_| crate::set_bounds(b, &crate::Search, kind, key));\n    early.and_then(|_| own(b, lent)).map_or_else(|number| (number, 0), |(directory, _)| write_with("),
+    ("10 comes before 13", "    own(b, lent).map_or_else(|number| (number, 0), |(directory, _)| write_with(b, directory, kind, key, out))", "    match own(b, lent) {\n        Err(13) => match write_with(b, &crate::Search, kind, key, &mut out.to_vec()) {\n            late @ (10, _) => late,\n            _ => (13, 0),\n        },\n        Err(number) => (number, 0),\n        Ok((directory, _)) => write_with(b, directory, kind, key, out),\n    }"),
+    ("4 and 5 of a question come before 13", "    let (directory, marked) = own(b, lent)?;\n    let asked = asked(user, object, request)?;", "    sound(b)?;\n    let asked = asked(user, object, request)?;\n    let (directory, marked) = own(b, lent)?;"),
+    ("4 and 5 of a question come before 2", "    let (directory, marked) = own(b, lent)?;\n    let asked = asked(user, object, request)?;", "    let asked = asked(user, object, request)?;\n    let (directory, marked) = own(b, lent)?;"),
     ("a directory is not renewed after a read", "    shift(b, keys, kind, key as usize, hi, lo + records);", "    shift(b, &mut Search, kind, key as usize, hi, lo + records);"),
     ("a directory is not renewed after a message that inserts", "        shift(b, keys, kind, want >> NAME_BITS, i, i + 1);", "        shift(b, &mut Search, kind, want >> NAME_BITS, i, i + 1);"),
     ("a directory is not renewed after a message that removes", "        shift(b, keys, kind, want >> NAME_BITS, i + 1, i);", "        shift(b, &mut Search, kind, want >> NAME_BITS, i + 1, i);"),
@@ -180,12 +185,12 @@ const FAULTS: &[(&str, &str, &str)] = &[
     ("no filter is looked up", "&filters[first - start..end - start]", "&filters[first - start..first - start + 0 * end]"),
     ("a read by a directory loses its value", "|directory| read_with(b, directory, kind, key, text))", "|directory| (read_with(b, directory, kind, key, text).0, 0))"),
     ("a text read by a directory has no place", "    own_mut(b, lent).map_or_else(|number| (number, 0), |directory| read_with(b, directory, kind, key, text))", "    match own_mut(b, lent).map_or_else(|number| (number, 0), |directory| read_with(b, directory, kind, key, text)) {\n        (9, _) => (9, 0),\n        other => other,\n    }"),
-    ("a write by a directory loses its value", "|directory| write_with(b, directory, kind, key, out))", "|directory| (write_with(b, directory, kind, key, out).0, 0))"),
-    ("a write by a wrong directory writes", "    own(b, lent).map_or_else(|number| (number, 0), |directory| write_with(b, directory, kind, key, out))", "    match own(b, lent) {\n        Err(number) => {\n            out.fill(0);\n            (number, 0)\n        }\n        Ok(directory) => write_with(b, directory, kind, key, out),\n    }"),
+    ("a write by a directory loses its value", "|(directory, _)| write_with(b, directory, kind, key, out))", "|(directory, _)| (write_with(b, directory, kind, key, out).0, 0))"),
+    ("a write by a wrong directory writes", "    own(b, lent).map_or_else(|number| (number, 0), |(directory, _)| write_with(b, directory, kind, key, out))", "    match own(b, lent) {\n        Err(number) => {\n            out.fill(0);\n            (number, 0)\n        }\n        Ok((directory, _)) => write_with(b, directory, kind, key, out),\n    }"),
     ("nothing is examined by a directory", "full(question_by::<true>(", "full(question_by::<false>("),
     ("the short question by a directory gives the rights", "short(question_by::<false>(b, lent, user, object, request), request)", "full(question_by::<false>(b, lent, user, object, request))"),
     ("13 has a value", "full(question_by::<true>(b, lent, user, object, request))", "match full(question_by::<true>(b, lent, user, object, request)) {\n        (13, _) => (13, 1),\n        other => other,\n    }"),
-    ("a request is not applied by a directory", "    let asked = asked(user, object, request)?;\n    Ok(answered::<COUNTED>(b, directory, asked))", "    let (user, object, _) = asked(user, object, request)?;\n    Ok(answered::<COUNTED>(b, directory, (user, object, crate::ALL)))"),
+    ("a request is not applied by a directory", "    let asked = asked(user, object, request)?;\n    Ok(answered::<COUNTED>(b, directory, asked, marked))", "    let (user, object, _) = asked(user, object, request)?;\n    Ok(answered::<COUNTED>(b, directory, (user, object, crate::ALL), marked))"),
 ];
 
 fn copy(from: &Path, to: &Path) -> std::io::Result<()> {
@@ -257,10 +262,12 @@ fn main() -> std::io::Result<()> {
     let sources: Vec<Source> = fs::read_dir(folder.join("plain/src"))?
         .map(|entry| entry.map(|entry| entry.path()).and_then(|path| Ok((path.clone(), fs::read_to_string(path)?))))
         .collect::<std::io::Result<_>>()?;
-    let places: Vec<&Source> = FAULTS.iter().map(|(what, old, _)| place(&sources, what, old)).collect();
+    let words = std::env::args().nth(1).unwrap_or_default();
+    let faults: Vec<&Fault> = FAULTS.iter().chain(markers::FAULTS).filter(|fault| fault.0.contains(&words)).collect();
+    let places: Vec<&Source> = faults.iter().map(|(what, old, _)| place(&sources, what, old)).collect();
     assert!(matches!(compared(&folder)?, End::Agreed), "the program without a fault disagrees");
     let mut missed = 0;
-    for ((what, old, new), (path, text)) in FAULTS.iter().zip(places) {
+    for ((what, old, new), (path, text)) in faults.iter().zip(places) {
         fs::write(path, text.replace(old, new))?;
         let end = compared(&folder)?;
         fs::write(path, text)?;
@@ -268,6 +275,6 @@ fn main() -> std::io::Result<()> {
         missed += usize::from(!matches!(end, End::Disagreed));
     }
     fs::remove_dir_all(&folder)?;
-    println!("{} faults, {} caught by a wrong answer", FAULTS.len(), FAULTS.len() - missed);
+    println!("{} faults, {} caught by a wrong answer", faults.len(), faults.len() - missed);
     std::process::exit(i32::from(missed > 0));
 }
