@@ -20,6 +20,7 @@ ghost use Rattle.index.specs.Block.{headerLength, place, key, id, from, 
 ghost use Rattle.index.specs.work.Bytes.{Pair};
 ghost use Rattle.index.specs.work.Edits.{fourAt, twoAt, smallAt, markersAt, barredAt};
 ghost use Rattle.index.specs.work.Checks.{Says, Header, Counted, Part, Zero};
+ghost use Rattle.index.specs.work.Sights.{Follows, SeesMore, Fair};
 ghost use Rattle.index.specs.Calls.{blockNeeds};
 ghost use Rattle.index.specs.Numbers.{Answers};
 
@@ -133,37 +134,81 @@ fn rank_at(b: &[u8], i: usize) -> u32
     NUMBERS * (pair % NUMBERS) + pair / NUMBERS
 }
 
-// The records numbered i to j - 1, as ones of the kind. Each stands at `least` or higher by key and id. All keys and ids
-// are joined in `names`, so that after the last record one look at it tells whether they are names. All counts that they
-// may not have are joined in `barred`, which must be zero then.
+// What was seen of the records of a part, up to one of them: the least key and id, as one number, that the next may have; all keys and
+// ids, joined, the keys in the high half; and all counts that the records may not have, joined.
+struct Sight {
+    least: usize,
+    names: u32,
+    barred: usize,
+}
+
+// Record i has the least key and id or higher ones, and a count above zero.
+fn follows(b: &[u8], i: usize, least: usize) -> bool
+    requires { ⌜ place (i + 1) ≤ length (now b) ⌝ }
+    ensures { λ r. ⌜ Says (Follows (now (b .entry)) i least) r ⌝ }
+{
+    if (rank_at(b, i) as usize) < least {
+        return false;
+    }
+    has_count(b, i)
+}
+
+// What was seen, and record i of the kind.
+fn look(b: &[u8], kind: Kind, i: usize, sight: Sight) -> Sight
+    requires { ⌜ place (i + 1) ≤ length (now b) ⌝ }
+    ensures { λ r. ⌜ SeesMore (now (b .entry)) kind i sight r ⌝ }
+{
+    let rank = rank_at(b, i);
+    Sight {
+        least: (rank as usize) + 1,
+        names: sight.names | rank,
+        barred: sight.barred | barred_at(b, kind, i),
+    }
+}
+
+// All keys and ids that were seen are names, and no record has a count that it may not have: one look at what was joined tells.
+fn fair(sight: Sight) -> bool
+    ensures { λ r. ⌜ Says (Fair sight) r ⌝ }
+{
+    if sight.barred != 0 {
+        return false;
+    }
+    if sight.names / NUMBERS >= (NAMES as u32) {
+        return false;
+    }
+    sight.names % NUMBERS < (NAMES as u32)
+}
+
+// The records numbered i to j - 1, as ones of the kind. They are looked at two at a time, and the last by itself where it has no other.
 fn part_good(b: &[u8], kind: Kind, i: usize, j: usize) -> bool
-    requires { ⌜ place j ≤ length (now b) ⌝ }
+    requires { ⌜ (place j ≤ length (now b)) × (i ≤ j) ⌝ }
     ensures { λ r. ⌜ Says (Part (now (b .entry)) kind i j) r ⌝ }
 {
     let mut n = i;
-    let mut least = 0;
-    let mut names = 0u32;
-    let mut barred = 0;
+    let mut sight = Sight {
+        least: 0,
+        names: 0u32,
+        barred: 0,
+    };
+    while n + 1 < j {
+        if !follows(b, n, sight.least) {
+            return false;
+        }
+        sight = look(b, kind, n, sight);
+        if !follows(b, n + 1, sight.least) {
+            return false;
+        }
+        sight = look(b, kind, n + 1, sight);
+        n += 2;
+    }
     while n < j {
-        let rank = rank_at(b, n);
-        if (rank as usize) < least {
+        if !follows(b, n, sight.least) {
             return false;
         }
-        if !has_count(b, n) {
-            return false;
-        }
-        names |= rank;
-        barred |= barred_at(b, kind, n);
-        least = (rank as usize) + 1;
+        sight = look(b, kind, n, sight);
         n += 1;
     }
-    if barred != 0 {
-        return false;
-    }
-    if names / NUMBERS >= (NAMES as u32) {
-        return false;
-    }
-    names % NUMBERS < (NAMES as u32)
+    fair(sight)
 }
 
 // The records of the kind.

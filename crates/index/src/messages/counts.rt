@@ -1,6 +1,5 @@
 // The counts of one record, and the letters that go down or up in it.
 
-use crate::GREATEST_COUNT;
 use crate::LETTER_COUNT;
 use crate::block::records::count_at;
 use crate::block::records::put_count;
@@ -11,6 +10,9 @@ ghost use Rattle.index.specs.Letters.{letterCount};
 ghost use Rattle.index.specs.Block.{place};
 ghost use Rattle.index.specs.work.Checks.{Says};
 ghost use Rattle.index.specs.work.Edits.{bit, Allows, Left, Recounted};
+
+// The counts are below this one.
+const BEYOND: u32 = 65536;
 
 // 1 where letter k is in the mask, else 0.
 fn bit_of(mask: usize, k: usize) -> usize
@@ -33,24 +35,20 @@ pub(crate) fn once(mask: usize) -> [usize; LETTER_COUNT]
     counts
 }
 
-// Each count of record i can do without one for each letter of `less` and with one for each letter of `more`.
+// Each count of record i can do without one for each letter of `less` and with one for each letter of `more`. What a count then is, and
+// 65,536 with it, has bit 16 just where the count is 0 to 65,535, so that one look at all of them, joined, tells.
 pub(crate) fn allows(b: &[u8], i: usize, less: usize, more: usize) -> bool
     requires { ⌜ place (i + 1) ≤ length (now b) ⌝ }
     ensures { λ r. ⌜ Says (Allows (now (b .entry)) i less more) r ⌝ }
 {
     let mut k = 0;
+    let mut all = BEYOND;
     while k < LETTER_COUNT {
-        let n = count_at(b, i, k) + bit_of(more, k);
-        let lost = bit_of(less, k);
-        if n < lost {
-            return false;
-        }
-        if n > GREATEST_COUNT + lost {
-            return false;
-        }
+        let n = BEYOND + (count_at(b, i, k) as u32) + (bit_of(more, k) as u32);
+        all &= n - (bit_of(less, k) as u32);
         k += 1;
     }
-    true
+    0 < (all / BEYOND) % 2
 }
 
 // A count of record i is above zero without one for each letter of the mask.

@@ -4,6 +4,7 @@ use mathlib.Core.Path.{_≡_, refl, sym, _∙_}
 use mathlib.Core.Bool.{Bool, true, false, cond}
 use mathlib.Core.Logic.{⊎-elim}
 use mathlib.Core.List.{List}
+use native.Mathlib.Nat.{eq-or-lt-of-le}
 use native.Mathlib.Omega.{arith}
 use borrow.Author.Tests.{eqb-true, eqb-false}
 use lib.Bits.{bitOr, or-shr, or-mod, or-add-and, and-le-l, and-le-r}
@@ -11,16 +12,17 @@ use lib.Dec.{eqb, ltb}
 use lib.ListN.{length, getD, List·getD-eq-default}
 use Rattle.index.specs.declared.Kind.{Kind}
 use Rattle.index.specs.declared.Kind.the-variants.{Membership, Permission, Filter}
+use Rattle.index.specs.declared.block.checks.Sight.{Sight}
 use Rattle.index.specs.Letters.{letterCount, rightCount, markerX, markerN, mayHave}
-use Rattle.index.specs.Block.{IsName, place, key, id, countAt, from, size, records, Before, Good}
-use Rattle.index.specs.work.Bytes.{Pair}
+use Rattle.index.specs.Block.{place, key, id, countAt, from, size, records, Before, Good}
 use Rattle.index.specs.work.Checks.{Says, Header, Counted, Allowed, Part, Zero}
 use Rattle.index.specs.work.Edits.{fourAt, twoAt, smallAt, markersAt, barredAt}
+use Rattle.index.specs.work.Sights.{rank, Follows, SeesMore, Fair}
 use Rattle.index.proofs.laws.Answer.{says-same, less-says}
 use Rattle.index.proofs.laws.block.Bytes.{count-out}
 use Rattle.index.proofs.laws.block.MayHave.{capital, not-both, small-alike, marker-alike}
 use Rattle.index.proofs.laws.Range.{lt-or-le, from-more}
-use Rattle.index.proofs.laws.block.Records.{before-spot}
+use Rattle.index.proofs.laws.block.Records.{before-spot, spot-before}
 use Rattle.index.proofs.laws.block.Seen.{Seen, seen-none, seen-more}
 use Rattle.index.proofs.laws.block.Together.{together}
 use Rattle.index.proofs.laws.block.Splice.{good-record}
@@ -116,69 +118,90 @@ allowed-barred kind b i a = rw (small (mayHave kind rightCount) refl, markers (m
 pub part-none : {b : List ℕ} {kind : Kind} {i : ℕ} (j : ℕ) → j ≤ i → Part b kind i j
 part-none j l = record { each = λ n k h. absurd (omega arith); rising = λ n k h. absurd (omega arith) }
 
--- The records numbered i to n - 1 pass as ones of the kind, but for their names and for the counts that they may not have:
--- all keys are joined in the high half of `names`, all ids in its low half, and all those counts in `barred`.
-pub record Passed (b : List ℕ) (kind : Kind) (i n names barred : ℕ) : Type 0 where
+-- The records numbered i to n - 1 pass as ones of the kind, but for what was joined of them in `sight`.
+pub record Passed (b : List ℕ) (kind : Kind) (i n : ℕ) (sight : Sight) : Type 0 where
   pub counts : (m : ℕ) → i ≤ m → m < n → Counted b m
   pub rising : (m : ℕ) → i ≤ m → m + 1 < n → Before b m (m + 1)
-  pub keys : Seen 10 (key b) i n (names / 65536)
-  pub ids : Seen 10 (id b) i n (names % 65536)
-  pub allowed : Seen 0 (barredAt b kind) i n barred
+  pub first : i ≡ n → sight .least ≡ 0
+  pub last : (m : ℕ) → i ≤ m → m + 1 ≡ n → sight .least ≡ rank b m + 1
+  pub keys : Seen 10 (key b) i n (sight .names / 65536)
+  pub ids : Seen 10 (id b) i n (sight .names % 65536)
+  pub allowed : Seen 0 (barredAt b kind) i n (sight .barred)
 
-pub passed-none : (b : List ℕ) (kind : Kind) (i : ℕ) → Passed b kind i i 0 0
+pub passed-none : (b : List ℕ) (kind : Kind) (i : ℕ) → Passed b kind i i (record { least = 0; names = 0; barred = 0 })
 passed-none b kind i =
     record {
       counts = λ m l h. absurd (omega arith);
       rising = λ m l h. absurd (omega arith);
+      first = λ _. refl;
+      last = λ m l e. absurd (omega arith);
       keys = seen-none 10 (key b) i;
       ids = seen-none 10 (id b) i;
       allowed = seen-none 0 (barredAt b kind) i;
     }
 
-pub passed-more : {b : List ℕ} {kind : Kind} {i n names barred rank own : ℕ} → i ≤ n → Passed b kind i n names barred
-    → Counted b n → ((m : ℕ) → i ≤ m → m + 1 ≡ n → Before b m (m + 1))
-    → Pair (id b n) (key b n) rank → own ≡ barredAt b kind n
-    → Passed b kind i (n + 1) (bitOr names rank) (bitOr barred own)
-passed-more {b} {kind} {i} {n} {names} {rank = rank} l p c step r f =
+pub passed-more : {b : List ℕ} {kind : Kind} {i n : ℕ} {old new : Sight} → i ≤ n → Passed b kind i n old
+    → Follows b n (old .least) → SeesMore b kind n old new → Passed b kind i (n + 1) new
+passed-more {b} {kind} {i} {n} {old} {new} l p f s =
     record {
-      counts = from-more (Counted b) i n (p .counts) c;
+      counts = from-more (Counted b) i n (p .counts) (f .counted);
       rising =
-          λ m k h. ⊎-elim (λ o. p .rising m k o) (λ o. step m k (omega arith)) (lt-or-le (m + 1) n);
+          λ m k h.
+          ⊎-elim (λ o. p .rising m k o)
+          (λ o.
+          let e : m + 1 ≡ n = omega arith in
+          spot-before {w = 65536} b m (m + 1) (rw e (s .id-small)) (rw e (omega (arith, f .high, p .last m k e))))
+          (lt-or-le (m + 1) n);
+      first = λ e. absurd (omega arith);
+      last = λ m k e. let q : m ≡ n = omega arith in rw q (s .least);
       keys =
-          let e : rank / 65536 ≡ key b n = omega arith in
-          rw (or-shr names rank 16, e) (seen-more l (p .keys));
+          let e : rank b n / 65536 ≡ key b n = omega (arith, s .id-small) in
+          rw (s .names, or-shr (old .names) (rank b n) 16, e) (seen-more l (p .keys));
       ids =
-          let e : rank % 65536 ≡ id b n = omega arith in
-          rw (or-mod names rank 16, e) (seen-more l (p .ids));
-      allowed = rw f (seen-more l (p .allowed));
+          let e : rank b n % 65536 ≡ id b n = omega (arith, s .id-small) in
+          rw (s .names, or-mod (old .names) (rank b n) 16, e) (seen-more l (p .ids));
+      allowed = rw (s .barred) (seen-more l (p .allowed));
     }
 
-pub passed-part : {b : List ℕ} {kind : Kind} {i n names barred : ℕ} (j : ℕ) → j ≤ n → Passed b kind i n names barred
-    → barred ≡ 0 → IsName (names / 65536) → IsName (names % 65536) → Part b kind i j
-passed-part {b} {kind} {n = n} j l p z x y =
+-- Where the whole part is good, the record after those that passed does follow.
+pub part-follows : {b : List ℕ} {kind : Kind} {i j n : ℕ} {sight : Sight} → i ≤ n → n < j → Passed b kind i n sight
+    → Part b kind i j → Follows b n (sight .least)
+part-follows {b} {kind} {i} {j} {n} {sight} l h p whole =
+    record {
+      high =
+          ⊎-elim (λ e. omega (arith, p .first e))
+          (λ k.
+          let e : n - 1 + 1 ≡ n = omega arith in
+          let r = whole .each (n - 1) (omega arith) (omega arith) .id-below in
+          let s = before-spot {w = 65536} b (n - 1) (n - 1 + 1) (omega arith) (whole .rising (n - 1) (omega arith) (omega arith)) in
+          omega (arith, rw e at s, p .last (n - 1) (omega arith) e))
+          (eq-or-lt-of-le l);
+      counted = whole .each n l h .counted;
+    }
+
+-- Where all have passed, what was joined of them tells the rest.
+pub passed-part : {b : List ℕ} {kind : Kind} {i j : ℕ} {sight : Sight} → Passed b kind i j sight → Fair sight → Part b kind i j
+passed-part {b} {kind} p f =
     record {
       each =
           λ m k h.
-          let h : m < n = omega arith in
           record {
-            key-below = p .keys .each-then x m k h;
-            id-below = p .ids .each-then y m k h;
+            key-below = p .keys .each-then (f .keys) m k h;
+            id-below = p .ids .each-then (f .ids) m k h;
             counted = p .counts m k h;
-            allowed = barred-allowed kind b m (omega (arith, p .allowed .each-then (omega arith) m k h));
+            allowed = barred-allowed kind b m (omega (arith, p .allowed .each-then (omega (arith, f .none-barred)) m k h));
           };
-      rising = λ m k h. p .rising m k (omega arith);
+      rising = p .rising;
     }
 
-pub part-passed : {b : List ℕ} {kind : Kind} {i j n names barred : ℕ} → (i < n → n ≤ j) → Passed b kind i n names barred
-    → Part b kind i j → (barred ≡ 0) × IsName (names / 65536) × IsName (names % 65536)
-part-passed {b} {kind} {i} {j} {n} l p whole = (
-  omega (arith, p .allowed .only-then (λ m k h. omega (arith, allowed-barred kind b m (whole .each m k (inside m k h) .allowed)))),
-  p .keys .only-then (λ m k h. whole .each m k (inside m k h) .key-below),
-  p .ids .only-then (λ m k h. whole .each m k (inside m k h) .id-below),
-)
-  where
-    inside : (m : ℕ) → i ≤ m → m < n → m < j
-    inside m k h = omega (arith, l (omega arith))
+pub part-fair : {b : List ℕ} {kind : Kind} {i j : ℕ} {sight : Sight} → Passed b kind i j sight → Part b kind i j → Fair sight
+part-fair {b} {kind} p whole =
+    record {
+      none-barred =
+          omega (arith, p .allowed .only-then (λ m k h. omega (arith, allowed-barred kind b m (whole .each m k h .allowed))));
+      keys = p .keys .only-then (λ m k h. whole .each m k h .key-below);
+      ids = p .ids .only-then (λ m k h. whole .each m k h .id-below);
+    }
 
 -- ---- bytes that are zero by their `or`
 
