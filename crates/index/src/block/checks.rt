@@ -8,6 +8,7 @@ use crate::NAMES;
 use crate::RECORD;
 use crate::RIGHTS;
 use crate::block::letters::may_have;
+use crate::block::numbers::NUMBERS;
 use crate::block::numbers::number_at;
 use crate::block::numbers::pair_at;
 use crate::block::places::first_of;
@@ -24,10 +25,7 @@ ghost use Rattle.index.specs.work.Sights.{Follows, SeesMore, Fair};
 ghost use Rattle.index.specs.Calls.{blockNeeds};
 ghost use Rattle.index.specs.Numbers.{Answers};
 
-// The numbers in a block are below this one.
-const NUMBERS: u32 = 65536;
-
-// Two of them, put together to one number, are below this one.
+// Two numbers of a block, put together to one, are below this one.
 const PAIRS: usize = 4294967296;
 
 // The header agrees with the parts, and the parts fit in the block.

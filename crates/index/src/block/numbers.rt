@@ -5,6 +5,9 @@ ghost use lib.ListN.{length};
 ghost use Rattle.index.specs.Block.{number};
 ghost use Rattle.index.specs.work.Bytes.{Put, Num, Pair};
 
+// The numbers in a block are below this one.
+pub(crate) const NUMBERS: u32 = 65536;
+
 // The number at byte i.
 pub(crate) fn number_at(b: &[u8], i: usize) -> usize
     requires { ⌜ i + 1 < length (now b) ⌝ }

@@ -1,6 +1,7 @@
 // The counts of one record, and the letters that go down or up in it.
 
 use crate::LETTER_COUNT;
+use crate::block::numbers::NUMBERS;
 use crate::block::records::count_at;
 use crate::block::records::put_count;
 ghost use mathlib.Core.Path.{_≡_};
@@ -10,9 +11,6 @@ ghost use Rattle.index.specs.Letters.{letterCount};
 ghost use Rattle.index.specs.Block.{place};
 ghost use Rattle.index.specs.work.Checks.{Says};
 ghost use Rattle.index.specs.work.Edits.{bit, Allows, Left, Recounted};
-
-// The counts are below this one.
-const BEYOND: u32 = 65536;
 
 // 1 where letter k is in the mask, else 0.
 fn bit_of(mask: usize, k: usize) -> usize
@@ -42,13 +40,13 @@ pub(crate) fn allows(b: &[u8], i: usize, less: usize, more: usize) -> bool
     ensures { λ r. ⌜ Says (Allows (now (b .entry)) i less more) r ⌝ }
 {
     let mut k = 0;
-    let mut all = BEYOND;
+    let mut all = NUMBERS;
     while k < LETTER_COUNT {
-        let n = BEYOND + (count_at(b, i, k) as u32) + (bit_of(more, k) as u32);
+        let n = NUMBERS + (count_at(b, i, k) as u32) + (bit_of(more, k) as u32);
         all &= n - (bit_of(less, k) as u32);
         k += 1;
     }
-    0 < (all / BEYOND) % 2
+    0 < (all / NUMBERS) % 2
 }
 
 // A count of record i is above zero without one for each letter of the mask.
