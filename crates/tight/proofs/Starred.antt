@@ -130,18 +130,24 @@ firms-right =
     and refl
     and tt)
 
--- What two tables say, as one.
-with-next : (xs ys : List Case) → Each Shows xs → Each Shows ys → Each Shows (xs ++ ys)
-with-next [] ys p q = q
-with-next (x ∷ xs) ys p q = (p .0, with-next xs ys (p .1) q)
+-- A table with what it says; and one more table before it.
+abbrev Table : Type 0
+Table = (xs : List Case) × Each Shows xs
+
+both : (xs ys : List Case) → Each Shows xs → Each Shows ys → Each Shows (xs ++ ys)
+both [] ys p q = q
+both (x ∷ xs) ys p q = (p .0, both xs ys (p .1) q)
+
+abbrev after : (xs : List Case) → Each Shows xs → Table → Table
+after xs p t = (xs ++ t .0, both xs (t .0) p (t .1))
 
 -- "the proved table": every starred example holds.
 pub table : Each Shows cases
 table =
-    with-next masks _ masks-right
-    (with-next texts _ texts-right
-    (with-next places _ places-right
-    (with-next chains _ chains-right
-    (with-next examined _ examined-right
-    (with-next appointments _ appointments-right
-    (with-next limits _ limits-right (with-next markers firms markers-right firms-right)))))))
+    after masks masks-right
+    (after texts texts-right
+    (after places places-right
+    (after chains chains-right
+    (after examined examined-right
+    (after appointments appointments-right (after limits limits-right (after markers markers-right (firms, firms-right))))))))
+    .1
