@@ -4,8 +4,8 @@ use crate::LIMIT;
 use crate::LIST;
 use crate::UNKNOWN;
 use crate::lookup::records_of;
-use crate::members::closes;
 use crate::members::is_member;
+use crate::members::leads;
 use crate::walk::Carry;
 use crate::walk::side;
 use index::ALL;
@@ -48,7 +48,7 @@ fn meets_at(block: &[u8], users: &[u8; NAMES], objects: &[u8; NAMES], i: usize) 
     if objects[pair / WIDE] == 0 {
         return false;
     }
-    closes(block, i)
+    leads(block, i, true)
 }
 
 // Some M record is so.

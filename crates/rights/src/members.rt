@@ -5,6 +5,7 @@ ghost use Rattle.index.specs.declared.Kind.the-variants.{Membership};
 ghost use Rattle.index.specs.Block.{Good, Of, key, id};
 ghost use Rattle.index.specs.work.Checks.{Says};
 ghost use Rattle.rights.specs.Groups.{Member, WithoutN, Closes};
+ghost use Rattle.rights.specs.work.Marks.{Leads};
 
 // M record i is a membership. It has no small letters, so that a letter which it counts is a capital one.
 pub(crate) fn is_member(block: &[u8], i: usize) -> bool
@@ -15,7 +16,7 @@ pub(crate) fn is_member(block: &[u8], i: usize) -> bool
 }
 
 // M record i is a membership, and does not count N.
-pub(crate) fn is_without_n(block: &[u8], i: usize) -> bool
+fn is_without_n(block: &[u8], i: usize) -> bool
     requires { ⌜ Good (now block) × Of (now block) Membership i ⌝ }
     ensures { λ r. ⌜ Says (WithoutN (now (block .entry)) (key (now (block .entry)) i) (id (now (block .entry)) i)) r ⌝ }
 {
@@ -26,12 +27,23 @@ pub(crate) fn is_without_n(block: &[u8], i: usize) -> bool
 }
 
 // M record i can be the last of a chain to a group that is hers.
-pub(crate) fn closes(block: &[u8], i: usize) -> bool
+fn closes(block: &[u8], i: usize) -> bool
     requires { ⌜ Good (now block) × Of (now block) Membership i ⌝ }
     ensures { λ r. ⌜ Says (Closes (now (block .entry)) (key (now (block .entry)) i) (id (now (block .entry)) i)) r ⌝ }
 {
     if index::marks_of(block, i) % WIDE == 0 {
         return false;
+    }
+    is_without_n(block, i)
+}
+
+// M record i can be one of a chain to a group that is hers: the last of it, or one before.
+pub(crate) fn leads(block: &[u8], i: usize, last: bool) -> bool
+    requires { ⌜ Good (now block) × Of (now block) Membership i ⌝ }
+    ensures { λ r. ⌜ Says (Leads (now (block .entry)) last (key (now (block .entry)) i) (id (now (block .entry)) i)) r ⌝ }
+{
+    if last {
+        return closes(block, i);
     }
     is_without_n(block, i)
 }

@@ -2,6 +2,7 @@
 -- name.
 use Prim.Native.Nat.{ℕ, suc, _+_, _*_, _^_, _<_, _≤_}
 use mathlib.Core.Path.{_≡_}
+use mathlib.Core.Bool.{Bool, true, false}
 use mathlib.Core.List.{List}
 use mathlib.Core.Logic.{_⊎_}
 use lib.ListN.{length, getD}
@@ -30,6 +31,11 @@ abbrev pub Carried : List ℕ → Carry → ℕ → ℕ → ℕ → Type 0
 Carried b carry.Rights k x y = Carries b k x y
 Carried b carry.WithoutN k x y = WithoutN b x y
 Carried b carry.Member k x y = Member b x y
+
+-- An M record can be one of a chain to a group that is hers: the last, or one before.
+abbrev pub Leads : List ℕ → Bool → ℕ → ℕ → Type 0
+Leads b true x y = Closes b x y
+Leads b false x y = WithoutN b x y
 
 -- From the marks ms right k comes to z: z has it, or one M record brings it from the mark of its key.
 abbrev pub Brings : List ℕ → Carry → List ℕ → ℕ → ℕ → Type 0

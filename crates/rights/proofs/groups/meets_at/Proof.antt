@@ -50,7 +50,7 @@ returns-2 c = λ p. omega (arith, p .2, of-object (c .before .before .before .be
 returns-3 : tie.Need-returns-3
 returns-3 c =
     let at = c .before .before .before .before .before in
-    says-same (c .closes .result) (λ m. (m, omega (arith, of-user at), omega (arith, of-object at))) (λ p. p .0) (c .closes .ensures)
+    says-same (c .leads .result) (λ m. (m, omega (arith, of-user at), omega (arith, of-object at))) (λ p. p .0) (c .leads .ensures)
 
 pub meets-at-spec : {M : Type 1} → statement M
 meets-at-spec =

@@ -17,7 +17,7 @@ returns c =
 
 returns-2 : tie.Need-returns-2
 returns-2 c =
-    rw (c .before .before .enum-told2 .given .1) (all-if (c .before .is-without-n .result) (c .before .is-without-n .ensures) (c .all-if .ensures))
+    rw (c .before .before .enum-told2 .given .1) (all-if (c .before .leads .result) (c .before .leads .ensures) (c .all-if .ensures))
 
 returns-3 : tie.Need-returns-3
 returns-3 c =
