@@ -1,5 +1,5 @@
--- 01, "Numbers a caller can get": the calls of this crate, each with its requirements in the order of their tests; M-107 for lengths and
--- markers.
+-- 01, "Numbers a caller can get": the calls of this crate, each with its requirements in the order of their tests; M-100 for wide
+-- messages, M-107 for lengths and markers.
 use Prim.Native.Nat.{ℕ, _+_, _*_, _<_, _≤_}
 use mathlib.Core.Path.{_≡_}
 use mathlib.Core.List.{List, [], _∷_, _++_}
@@ -14,8 +14,9 @@ use Rattle.index.specs.declared.Kind.the-variants.{Membership}
 use Rattle.index.specs.Letters.{markerX, markerN, Mask}
 use Rattle.index.specs.Numbers.{First, Each}
 use Rattle.index.specs.Block.{IsName, Sized, Of, key, id, countAt, Has, Good, records, room, NetAt}
-use Rattle.index.specs.Message.{IsKind, kindOf, previous, new, WellFormed, Named, Masked, changes, Carried, packedHalf, PackedWell, packedChanges}
-use Rattle.index.specs.Wide.{WideFormed, widePrevious, wideNew}
+use Rattle.index.specs.Message.{IsKind, kindOf, Named, Masked, changes, Carried, packedHalf, PackedWell, packedChanges}
+use Rattle.index.specs.Wide.{Sent, previousOf, newOf, FormedOf}
+use Rattle.index.specs.Wide.Sent.{plain, wide}
 use Rattle.index.specs.Text.{Entry, textOf, setOf, Writes, Replaced, Place}
 
 -- 1: "block length not 16 to" 49,168; 2: "block not good". M-107: "1 and 8 by the new lengths".
@@ -32,27 +33,26 @@ makeNeeds b = (1, Sized b) ∷ []
 unfoldable pub Makes : List ℕ → (ℕ × List ℕ) → Type 0
 Makes b o = First (λ n. (n, b)) (makeNeeds b) (Made b) o
 
--- message: the number, and the block then. 3: "message not 12 bytes, or kind, flags or an absent half wrong", and M-107: "both markers in
--- one half, a marker on an absent half or on kinds 2 and 3 is 3"; 4: "a name above 1023, given by the caller or in a present half", here the
--- latter; 5: "a present half's mask 0, or above 15 for M or F"; then 6, 7 and 8 of its steps.
-unfoldable pub messageNeeds : List ℕ → List ℕ → List (ℕ × Type 0)
-messageNeeds b m =
+-- A message, plain or wide: the number, and the block then. 3 by its form; 4: "a name above 1023, given by the caller or in a present half",
+-- here the latter; 5: "a present half's mask 0, or above 15 for M or F"; then 6, 7 and 8 of its steps. M-100: "then 4 and 5; then the first
+-- of 6, 7 or 8 met in pair order".
+unfoldable pub sentNeeds : List ℕ → Sent → List (ℕ × Type 0)
+sentNeeds b s =
     blockNeeds b
-    ++ ((3, WellFormed m) ∷ (4, Each Named (previous m ++ new m)) ∷ (5, Each Masked (previous m ++ new m)) ∷ [])
+    ++ ((3, FormedOf s) ∷ (4, Each Named (previousOf s ++ newOf s)) ∷ (5, Each Masked (previousOf s ++ newOf s)) ∷ [])
 
-unfoldable pub Message : List ℕ → List ℕ → (ℕ × List ℕ) → Type 0
-Message b m o = First (λ n. (n, b)) (messageNeeds b m) (Carried b (changes (previous m) (new m)) b) o
+unfoldable pub Sends : List ℕ → Sent → (ℕ × List ℕ) → Type 0
+Sends b s o = First (λ n. (n, b)) (sentNeeds b s) (Carried b (changes (previousOf s) (newOf s)) b) o
 
--- wide: the number, and the block then. 3, 4 and 5 as for a message, then 6, 7 and 8 of its steps, "in pair order".
-unfoldable pub wideNeeds : List ℕ → List ℕ → List (ℕ × Type 0)
-wideNeeds b m =
-    blockNeeds b
-    ++ ((3, WideFormed m)
-    ∷ (4, Each Named (widePrevious m ++ wideNew m))
-    ∷ (5, Each Masked (widePrevious m ++ wideNew m)) ∷ [])
+-- message: 3 is "message not 12 bytes, or kind, flags or an absent half wrong", and M-107: "both markers in one half, a marker on an absent
+-- half or on kinds 2 and 3 is 3".
+abbrev pub Message : List ℕ → List ℕ → (ℕ × List ℕ) → Type 0
+Message b m o = Sends b (plain m) o
 
-unfoldable pub Wide : List ℕ → List ℕ → (ℕ × List ℕ) → Type 0
-Wide b m o = First (λ n. (n, b)) (wideNeeds b m) (Carried b (changes (widePrevious m) (wideNew m)) b) o
+-- wide: 3 is "a wrong header or length, or a present half's list that is empty, too long or not strictly rising", and the markers as in a
+-- plain message.
+abbrev pub Wide : List ℕ → List ℕ → (ℕ × List ℕ) → Type 0
+Wide b m o = Sends b (wide m) o
 
 -- carry_out: the number, and the block then. 3, 4 and 5 over all changes of the list, then 6, 7 and 8 of its steps.
 unfoldable pub listNeeds : List ℕ → List ℕ → List (ℕ × Type 0)

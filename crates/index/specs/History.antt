@@ -6,31 +6,15 @@ use mathlib.Core.Bool.{cond}
 use mathlib.Core.List.{List, [], _∷_}
 use lib.Dec.{eqb}
 use Rattle.index.specs.declared.Kind.{Kind}
-use Rattle.index.specs.Message.{Half, moves, previous, new}
-use Rattle.index.specs.Wide.{widePrevious, wideNew}
-use Rattle.index.specs.Calls.{Message, Wide}
+use Rattle.index.specs.Message.{Half, moves}
+use Rattle.index.specs.Wide.{Sent, previousOf, newOf}
+use Rattle.index.specs.Calls.{Sends}
 
--- "lists of wide and plain messages mixed": what is sent, the halves that it takes away and leaves, and its call.
-pub data Sent : Type 0 where
-  plain : List ℕ → Sent
-  wide : List ℕ → Sent
-
-abbrev pub previousOf : Sent → List Half
-previousOf (plain m) = previous m
-previousOf (wide m) = widePrevious m
-
-abbrev pub newOf : Sent → List Half
-newOf (plain m) = new m
-newOf (wide m) = wideNew m
-
-abbrev pub Outcome : List ℕ → Sent → (ℕ × List ℕ) → Type 0
-Outcome b (plain m) o = Message b m o
-Outcome b (wide m) o = Wide b m o
-
--- "accepted without a refusal": all messages, one after the other, and the block goes from b to b′.
+-- M-100: "Demand 3 reads over lists of wide and plain messages mixed". "accepted without a refusal": all messages, one after the other, and
+-- the block goes from b to b′.
 pub data Accepted : List ℕ → List Sent → List ℕ → Type 0 where
   nothing : {b : List ℕ} → Accepted b [] b
-  next : {b b₁ b′ : List ℕ} {m : Sent} {ms : List Sent} → Outcome b m (0, b₁) → Accepted b₁ ms b′ → Accepted b (m ∷ ms) b′
+  next : {b b₁ b′ : List ℕ} {m : Sent} {ms : List Sent} → Sends b m (0, b₁) → Accepted b₁ ms b′ → Accepted b (m ∷ ms) b′
 
 -- "a list of messages only, with no read between, each labelled with the statement it speaks for"
 pub record Labelled : Type 0 where
@@ -60,12 +44,13 @@ after m s = record { label = m .label; halves = newOf (m .sent) } ∷ others (m 
 -- nothing left, the previous half is absent". A refused message changes nothing and may stand anywhere.
 pub data History : List ℕ → List Statement → List Labelled → List ℕ → List Statement → Type 0 where
   nothing : {b : List ℕ} {s : List Statement} → History b s [] b s
-  accepted : {b b₁ b′ : List ℕ} {s s′ : List Statement} {m : Labelled} {ms : List Labelled} → Outcome b (m .sent) (0, b₁)
+  accepted : {b b₁ b′ : List ℕ} {s s′ : List Statement} {m : Labelled} {ms : List Labelled} → Sends b (m .sent) (0, b₁)
       → previousOf (m .sent) ≡ left (m .label) s → History b₁ (after m s) ms b′ s′ → History b s (m ∷ ms) b′ s′
   refused : {b b′ : List ℕ} {s s′ : List Statement} {m : Labelled} {ms : List Labelled} {r : ℕ} → 0 < r
-      → Outcome b (m .sent) (r, b) → History b s ms b′ s′ → History b s (m ∷ ms) b′ s′
+      → Sends b (m .sent) (r, b) → History b s ms b′ s′ → History b s (m ∷ ms) b′ s′
 
--- "the number of statements standing at that moment with that record and that letter"
+-- "the number of statements standing at that moment with that record and that letter". M-100: "a wide statement counts once in each of its
+-- pairs".
 unfoldable pub movesOf : List Half → Kind → ℕ → ℕ → ℕ → ℕ
 movesOf [] kind x y k = 0
 movesOf (h ∷ hs) kind x y k = moves h kind x y k + movesOf hs kind x y k

@@ -1,4 +1,4 @@
--- What the support desk reads: a file for each heading of 01, and one for wide messages, whose call is still to come (02, M-100).
+-- What the support desk reads: a file for each heading of 01, and one for wide messages (02, M-100).
 pub mod Letters
 pub mod Numbers
 pub mod Block

@@ -3,6 +3,7 @@ pub mod Places
 pub mod Checks
 pub mod Bytes
 pub mod Edits
+pub mod Pairing
 pub mod Sights
 pub mod Reading
 pub mod Pieces

@@ -19,6 +19,7 @@ pub use crate::block::making::make;
 pub use crate::messages::lists::carry_out;
 pub use crate::messages::plain::message;
 pub use crate::messages::run::pack;
+pub use crate::messages::wide::wide;
 pub use crate::text::sets::read_set;
 pub use crate::text::sets::write_set;
 
@@ -54,7 +55,7 @@ pub const GREATEST_NAME: usize = 1023;
 pub const GREATEST_COUNT: usize = 65535;
 
 // Keys and ids are numbers below this one. As a pair they are the key, plus this many times the id.
-pub const WIDE: usize = 65536;
+pub const PAIR: usize = 65536;
 
 // The greatest length of a block, and how many records there is room for in it.
 pub const GREATEST: usize = HEADER + RECORD * ROOM;

@@ -4,7 +4,7 @@ use crate::lookup::records_of;
 use crate::members::is_member;
 use index::ALL;
 use index::Kind;
-use index::WIDE;
+use index::PAIR;
 ghost use Prim.Native.Nat.{_<_, _^_};
 ghost use Rattle.index.specs.declared.Kind.the-variants.{Membership};
 ghost use Rattle.index.specs.Letters.{rightCount, In, Mask};
@@ -35,7 +35,7 @@ fn narrowed_by(block: &[u8], directory: &[u16], i: usize, mask: u8) -> u8
     if !is_member(block, i) {
         return mask;
     }
-    narrowed(block, directory, index::pair_of(block, i) / WIDE, mask)
+    narrowed(block, directory, index::pair_of(block, i) / PAIR, mask)
 }
 
 // The rights that are in the net mask of every F record of the object and of each group that it is a member of: all, if there is

@@ -11,7 +11,7 @@ use crate::walk::side;
 use index::ALL;
 use index::Kind;
 use index::NAMES;
-use index::WIDE;
+use index::PAIR;
 ghost use Prim.Native.Nat.{_<_};
 ghost use lib.ListN.{getD};
 ghost use Rattle.index.specs.declared.Kind.the-variants.{Membership};
@@ -42,10 +42,10 @@ fn meets_at(block: &[u8], users: &[u8; NAMES], objects: &[u8; NAMES], i: usize) 
     ensures { λ r. ⌜ Says (Closes (now (block .entry)) (key (now (block .entry)) i) (id (now (block .entry)) i) × (0 < getD (now (users .entry)) (key (now (block .entry)) i) 0) × (0 < getD (now (objects .entry)) (id (now (block .entry)) i) 0)) r ⌝ }
 {
     let pair = index::pair_of(block, i);
-    if users[pair % WIDE] == 0 {
+    if users[pair % PAIR] == 0 {
         return false;
     }
-    if objects[pair / WIDE] == 0 {
+    if objects[pair / PAIR] == 0 {
         return false;
     }
     leads(block, i, true)

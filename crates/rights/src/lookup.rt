@@ -2,8 +2,8 @@
 
 use directory::Span;
 use index::Kind;
+use index::PAIR;
 use index::ROOM;
-use index::WIDE;
 ghost use Prim.Native.Nat.{_<_, _≤_};
 ghost use mathlib.Core.Path.{_≡_};
 ghost use Rattle.index.specs.Block.{IsName, records, Sized, Good};
@@ -16,9 +16,9 @@ fn key_before(block: &[u8], i: usize, end: usize) -> usize
     ensures { λ r. ⌜ KeyBefore (now (block .entry)) end i r ⌝ }
 {
     if i < end {
-        return index::pair_of(block, i) % WIDE;
+        return index::pair_of(block, i) % PAIR;
     }
-    WIDE - 1
+    PAIR - 1
 }
 
 // The step, if the key is below the name, or else 0. There is no branch on the key for the processor to guess: the mask of the step is
@@ -27,7 +27,7 @@ fn taken(step: usize, key: usize, name: usize) -> usize
     requires { ⌜ (step < wide) × ((key < wide) × (name < wide)) ⌝ }
     ensures { λ r. ⌜ (key < name → r ≡ step) × (name ≤ key → r ≡ 0) ⌝ }
 {
-    step & ((key + WIDE * WIDE - name) / WIDE)
+    step & ((key + PAIR * PAIR - name) / PAIR)
 }
 
 // The number of the first record of the kind whose key is not below the name. In the loop every record before `low` has a key below it, and
@@ -73,7 +73,7 @@ pub(crate) fn records_of(block: &[u8], directory: &[u16], kind: Kind, name: usiz
     let part = directory::part_of(block, kind);
     let mut end = from;
     while end < part.end {
-        if index::pair_of(block, end) % WIDE != name {
+        if index::pair_of(block, end) % PAIR != name {
             break;
         }
         end += 1;

@@ -1,6 +1,6 @@
 // What an M record says, masks disregarded: whether it is a membership, and which markers it counts.
 
-use index::WIDE;
+use index::PAIR;
 ghost use Rattle.index.specs.declared.Kind.the-variants.{Membership};
 ghost use Rattle.index.specs.Block.{Good, Of, key, id};
 ghost use Rattle.index.specs.work.Checks.{Says};
@@ -20,7 +20,7 @@ fn is_without_n(block: &[u8], i: usize) -> bool
     requires { ⌜ Good (now block) × Of (now block) Membership i ⌝ }
     ensures { λ r. ⌜ Says (WithoutN (now (block .entry)) (key (now (block .entry)) i) (id (now (block .entry)) i)) r ⌝ }
 {
-    if index::marks_of(block, i) >= WIDE {
+    if index::marks_of(block, i) >= PAIR {
         return false;
     }
     is_member(block, i)
@@ -31,7 +31,7 @@ fn closes(block: &[u8], i: usize) -> bool
     requires { ⌜ Good (now block) × Of (now block) Membership i ⌝ }
     ensures { λ r. ⌜ Says (Closes (now (block .entry)) (key (now (block .entry)) i) (id (now (block .entry)) i)) r ⌝ }
 {
-    if index::marks_of(block, i) % WIDE == 0 {
+    if index::marks_of(block, i) % PAIR == 0 {
         return false;
     }
     is_without_n(block, i)

@@ -3,8 +3,8 @@ use Prim.Native.Nat.{ℕ, _<_}
 use mathlib.Core.Path.{_≡_, refl, subst}
 use mathlib.Core.Bool.{Bool, true, false, not}
 use native.Mathlib.Omega.{arith}
-use borrow.Author.Tests.{not-true, not-false, ltb-true, ltb-false}
-use lib.Dec.{ltb}
+use borrow.Author.Tests.{not-true, not-false, ltb-true, ltb-false, eqb-true, eqb-false}
+use lib.Dec.{ltb, eqb}
 use Rattle.index.specs.work.Checks.{Says}
 
 pub yes-is : {P : Type 0} {t : Bool} → t ≡ true → Says P t → P
@@ -24,10 +24,17 @@ pub says-same : {P Q : Type 0} (t : Bool) → (P → Q) → (Q → P) → Says P
 says-same true f g s = f s
 says-same false f g s = λ q. s (g q)
 
--- The test of two numbers is right about them.
+-- The tests of two numbers are right about them.
 pub less-says : (a b : ℕ) → Says (a < b) (ltb a b)
 less-says a b = go (ltb a b) refl
   where
     go : (t : Bool) → ltb a b ≡ t → Says (a < b) t
     go true e = ltb-true a b e
     go false e = λ h. absurd (omega (arith, ltb-false a b e))
+
+pub equal-says : (a b : ℕ) → Says (a ≡ b) (eqb a b)
+equal-says a b = go (eqb a b) refl
+  where
+    go : (t : Bool) → eqb a b ≡ t → Says (a ≡ b) t
+    go true e = eqb-true a b e
+    go false e = eqb-false a b e

@@ -2,7 +2,7 @@
 use Prim.Native.Nat.{ℕ, suc, _+_, _*_, _/_, _%_, _^_, _<_, _≤_}
 use mathlib.Core.Path.{_≡_}
 use mathlib.Core.Bool.{Bool, true, false, cond}
-use mathlib.Core.List.{List, [], _∷_}
+use mathlib.Core.List.{List, [], _∷_, _++_}
 use mathlib.Core.Logic.{_↔_}
 use lib.Bits.{bitOr}
 use lib.Dec.{eqb}
@@ -15,9 +15,10 @@ use Rattle.index.specs.Letters.{letterCount, rightCount, markerX, marker
 use Rattle.index.specs.Block.{greatestCount, IsName, headerLength, greatestLength, recordLength, place, countAt, from, size, records, key, id, Of, Good}
 use Rattle.index.specs.work.Bytes.{Inside}
 use Rattle.index.specs.work.Checks.{Header}
-use Rattle.index.specs.Numbers.{First}
-use Rattle.index.specs.Message.{Half, halfCount, present, halfAt, WellFormed, Named, Masked, Change, Changed, ownCount, changeNeeds, packedHalf, PackedWell, packedChange}
+use Rattle.index.specs.Numbers.{First, Each}
+use Rattle.index.specs.Message.{Half, Named, Masked, Change, Changed, ownCount, changeNeeds, packedHalf, PackedWell, packedChange}
 use Rattle.index.specs.Message.Change.{take, add}
+use Rattle.index.specs.Wide.{Sent, previousOf, newOf, FormedOf}
 use Rattle.index.specs.work.Places.{spot, At, Gap}
 
 -- r is the mask of the letters that a record of the kind may have.
@@ -161,7 +162,7 @@ pub data Went (b₀ cs : List ℕ) : ℕ → List ℕ → Type 0 where
   next : {i : ℕ} {b b′ : List ℕ} → Went b₀ cs i b → Ready (packedHalf (getD cs i 0)) b → Step (packedChange (getD cs i 0)) b 0 b′
       → Went b₀ cs (suc i) b′
 
--- The tests of the message have passed.
-pub record Tested (b m : List ℕ) : Type 0 where
-  pub formed : WellFormed m
-  pub ready : (h : ℕ) → h < halfCount → present m h ≡ true → Ready (halfAt m h) b
+-- The tests of the message have passed, of the block too.
+pub record Tested (b : List ℕ) (s : Sent) : Type 0 where
+  pub formed : FormedOf s
+  pub ready : Each (λ h. Ready h b) (previousOf s ++ newOf s)

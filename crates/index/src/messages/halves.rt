@@ -1,14 +1,16 @@
-// The kind of a message, and its two halves by their number, 0 for the previous one and 1 for the new one; the parts of a half, and its tests.
+// The two halves of a plain message by their number, 0 for the previous one and 1 for the new one; the parts of a half, and its tests.
 
 use crate::MARKER_X;
 use crate::NAMES;
 use crate::block::kinds::kind_of;
 use crate::block::letters::may_have_all;
 use crate::block::numbers::number_at;
+use crate::messages::beginning::kind_in;
+use crate::messages::beginning::markers_of;
 ghost use mathlib.Core.Path.{_≡_};
 ghost use Prim.Native.Nat.{_<_, _/_};
 ghost use lib.ListN.{length};
-ghost use Rattle.index.specs.Message.{kindOf, messageLength, halfCount, kindIn, present, markers, markerMask, halfAt, Marked, Named, Masked};
+ghost use Rattle.index.specs.Message.{kindOf, messageLength, halfCount, markerMask, maskWith, halfAt, Named, Masked};
 ghost use Rattle.index.specs.work.Checks.{Says};
 ghost use Rattle.index.specs.work.Edits.{half};
 
@@ -16,11 +18,6 @@ ghost use Rattle.index.specs.work.Edits.{half};
 pub(crate) const FIRST: usize = 2;
 
 pub(crate) const HALF: usize = 5;
-
-// The numbers of the halves.
-pub(crate) const PREVIOUS: usize = 0;
-
-pub(crate) const NEW: usize = 1;
 
 // The mask of the first marker: a half's markers stand in its mask so many times.
 const MARKER: usize = 1 << MARKER_X;
@@ -33,28 +30,12 @@ pub(crate) struct Half {
     pub(crate) mask: usize,
 }
 
-// Half h of a message is present.
-pub(crate) fn is_present(m: &[u8], h: usize) -> bool
-    requires { ⌜ (length (now m) ≡ messageLength) × (h < halfCount) ⌝ }
-    ensures { λ r. ⌜ r ≡ present (now (m .entry)) h ⌝ }
+// The mask of half h of a message: its mask byte, with its markers.
+pub(crate) fn mask_with(m: &[u8], h: usize, byte: u8) -> usize
+    requires { ⌜ (1 < length (now m)) × (h < halfCount) ⌝ }
+    ensures { λ r. ⌜ (r ≡ maskWith (now (m .entry)) h byte) × (r < 1024) ⌝ }
 {
-    (m[1] >> h) % 2 == 1
-}
-
-// The number of a message's kind: the low four bits of the kind byte.
-pub(crate) fn kind_in(m: &[u8]) -> u64
-    requires { ⌜ length (now m) ≡ messageLength ⌝ }
-    ensures { λ r. ⌜ (r ≡ kindIn (now (m .entry))) × (r < 16) ⌝ }
-{
-    (m[0] % 16) as u64
-}
-
-// The markers of half h of a message: 0 for none, 1 for X, 2 for N, 3 for both.
-pub(crate) fn markers_of(m: &[u8], h: usize) -> usize
-    requires { ⌜ (length (now m) ≡ messageLength) × (h < halfCount) ⌝ }
-    ensures { λ r. ⌜ (r ≡ markers (now (m .entry)) h) × (r < 4) ⌝ }
-{
-    ((m[0] >> (6 - 2 * h)) % 4) as usize
+    (byte as usize) + MARKER * markers_of(m, h)
 }
 
 // Half h of a message, as its bytes have it.
@@ -70,7 +51,7 @@ pub(crate) fn half_at(m: &[u8], h: usize) -> Half
         kind: kind_in(m),
         x,
         y,
-        mask: (m[i + 4] as usize) + MARKER * markers_of(m, h),
+        mask: mask_with(m, h, m[i + 4]),
     }
 }
 
@@ -82,22 +63,6 @@ pub(crate) fn is_named(h: Half) -> bool
         return false;
     }
     h.y < NAMES
-}
-
-// A half of this kind may have these markers: none, or one if it is present and of kind 1.
-pub(crate) fn is_marked(markers: usize, kind: u64, there: bool) -> bool
-    ensures { λ r. ⌜ Says (Marked markers (kindOf kind) there) r ⌝ }
-{
-    if markers == 0 {
-        return true;
-    }
-    if markers > 2 {
-        return false;
-    }
-    if kind != 1 {
-        return false;
-    }
-    there
 }
 
 // The markers in the mask of a half.

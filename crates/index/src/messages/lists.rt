@@ -1,7 +1,7 @@
 // A list of changes from a crate above: its tests, and what it does.
 
 use crate::block::checks::tested;
-use crate::messages::halves::is_marked;
+use crate::messages::beginning::is_marked;
 use crate::messages::halves::is_masked;
 use crate::messages::halves::is_named;
 use crate::messages::halves::markers_in;

@@ -2,26 +2,25 @@
 
 use crate::MESSAGE;
 use crate::block::checks::tested;
+use crate::messages::beginning::NEW;
+use crate::messages::beginning::PREVIOUS;
+use crate::messages::beginning::begun;
+use crate::messages::beginning::is_present;
 use crate::messages::carry::carry;
 use crate::messages::halves::FIRST;
 use crate::messages::halves::HALF;
-use crate::messages::halves::NEW;
-use crate::messages::halves::PREVIOUS;
 use crate::messages::halves::half_at;
-use crate::messages::halves::is_marked;
 use crate::messages::halves::is_masked;
 use crate::messages::halves::is_named;
-use crate::messages::halves::is_present;
-use crate::messages::halves::kind_in;
-use crate::messages::halves::markers_of;
 ghost use mathlib.Core.Path.{_≡_};
 ghost use mathlib.Core.Bool.{false};
 ghost use mathlib.Core.List.{_++_};
 ghost use Prim.Native.Nat.{_<_};
 ghost use lib.ListN.{length};
 ghost use Rattle.index.specs.Numbers.{Answers, Each};
-ghost use Rattle.index.specs.Message.{kindOf, messageLength, halfCount, kindIn, present, markers, halves, previous, new, Marked, Begun, Blank, WellFormed, Named, Masked};
-ghost use Rattle.index.specs.Calls.{messageNeeds, Message};
+ghost use Rattle.index.specs.Message.{messageLength, halfCount, present, halves, previous, new, Blank, WellFormed, Named, Masked};
+ghost use Rattle.index.specs.Wide.Sent.{plain};
+ghost use Rattle.index.specs.Calls.{sentNeeds, Message};
 ghost use Rattle.index.specs.work.Checks.{Says};
 
 // Half h is five zero bytes, unless it is present.
@@ -41,39 +40,6 @@ fn blank(m: &[u8], h: usize) -> bool
         j += 1;
     }
     true
-}
-
-// Half h may have its markers.
-fn markers_good(m: &[u8], h: usize) -> bool
-    requires { ⌜ (length (now m) ≡ messageLength) × (h < halfCount) ⌝ }
-    ensures { λ r. ⌜ Says (Marked (markers (now (m .entry)) h) (kindOf (kindIn (now (m .entry)))) (present (now (m .entry)) h)) r ⌝ }
-{
-    is_marked(markers_of(m, h), kind_in(m), is_present(m, h))
-}
-
-// Kind, flags and markers are right.
-fn begun(m: &[u8]) -> bool
-    requires { ⌜ length (now m) ≡ messageLength ⌝ }
-    ensures { λ r. ⌜ Says (Begun (now (m .entry))) r ⌝ }
-{
-    let kind = kind_in(m);
-    if kind < 1 {
-        return false;
-    }
-    if kind > 3 {
-        return false;
-    }
-    let flags = m[1];
-    if flags < 1 {
-        return false;
-    }
-    if flags > 3 {
-        return false;
-    }
-    if !markers_good(m, PREVIOUS) {
-        return false;
-    }
-    markers_good(m, NEW)
 }
 
 // The message is 12 bytes; kind, flags, markers and an absent half are right.
@@ -138,7 +104,7 @@ fn masked(m: &[u8]) -> bool
 
 // The tests 1 to 5.
 fn refused(b: &[u8], m: &[u8]) -> u8
-    ensures { λ r. ⌜ Answers (messageNeeds (now (b .entry)) (now (m .entry))) r ⌝ }
+    ensures { λ r. ⌜ Answers (sentNeeds (now (b .entry)) (plain (now (m .entry)))) r ⌝ }
 {
     let r = tested(b);
     if r != 0 {

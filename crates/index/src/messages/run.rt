@@ -5,7 +5,7 @@ use crate::messages::edits::put_in;
 use crate::messages::edits::take_away;
 use crate::messages::halves::Half;
 ghost use mathlib.Core.Path.{_≡_};
-ghost use mathlib.Core.List.{List};
+ghost use mathlib.Core.List.{List, [], _∷_};
 ghost use Prim.Native.Nat.{ℕ, _+_, _/_, _%_, _≤_};
 ghost use lib.ListN.{length};
 ghost use Rattle.index.specs.Message.{kindOf, Carried, packed, packedKind, packedHalf, packedChange, packedChanges};
@@ -86,4 +86,20 @@ pub(crate) fn run(b: &mut [u8], changes: &[u64]) -> u8
         i += 1;
     }
     0
+}
+
+// The run of two changes, written out: a message has no need of a list in memory.
+pub(crate) fn run_both(b: &mut [u8], first: u64, second: u64) -> u8
+    requires { ⌜ Prepared (first ∷ second ∷ []) (now b) ⌝ }
+    ensures { λ r. ⌜ Carried (now (b .entry)) (packedChanges (first ∷ second ∷ [])) (now (b .entry)) (r, now (b .exit)) ⌝ }
+{
+    let number = change(b, first);
+    if number != 0 {
+        return number;
+    }
+    let number = change(b, second);
+    if number != 0 {
+        change(b, opposite(first));
+    }
+    number
 }

@@ -9,8 +9,9 @@ use Rattle.index.specs.declared.Kind.{Kind}
 use Rattle.index.specs.Block.{Good, count}
 use Rattle.index.specs.Message.{Change, changes, taken, added, Changed, Carried, packedChanges}
 use Rattle.index.specs.Letters.{letterCount}
-use Rattle.index.specs.Calls.{blockNeeds, listNeeds, CarriesOut}
-use Rattle.index.specs.History.{Sent, previousOf, newOf, Outcome, Accepted}
+use Rattle.index.specs.Wide.{Sent, previousOf, newOf}
+use Rattle.index.specs.Calls.{blockNeeds, Sends, listNeeds, CarriesOut}
+use Rattle.index.specs.History.{Accepted}
 use Rattle.index.specs.History.Accepted.{nothing, next}
 use Rattle.index.proofs.laws.block.Canonical.{canonical}
 use Rattle.index.proofs.laws.Firsts.{first-passed}
@@ -58,7 +59,7 @@ run-balance b cs b′ h =
     })
     cs b (0, b′) h refl
 
-pub balance : (b : List ℕ) (m : Sent) (b′ : List ℕ) → Outcome b m (0, b′) → Balanced (stepsOf m) b b′
+pub balance : (b : List ℕ) (m : Sent) (b′ : List ℕ) → Sends b m (0, b′) → Balanced (stepsOf m) b b′
 balance b m b′ h =
     sent-cases b m (λ o. o .0 ≡ 0 → Balanced (stepsOf m) b (o .1)) (λ n l z. absurd (omega arith))
     (λ o p z. run-balance b (stepsOf m) (o .1) (subst (λ (n : ℕ). Carried b (stepsOf m) b (n, o .1)) z p)) (0, b′) h refl

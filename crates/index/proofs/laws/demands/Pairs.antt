@@ -9,10 +9,10 @@ use lib.Dec.{eqb}
 use Rattle.index.specs.declared.Kind.{Kind}
 use Rattle.index.specs.Numbers.{Each}
 use Rattle.index.specs.Message.{kindOf, kindNumber, Half, halfCount, kindIn, present, halfAt, halves, new, changes, Carried, moves, maskWith}
-use Rattle.index.specs.Wide.{names, Rising, WideFormed, maskIn, pairs, wideHalves, widePrevious, wideNew, namesFrom}
-use Rattle.index.specs.Calls.{blockNeeds, wideNeeds, Wide}
-use Rattle.index.specs.History.{Sent, newOf, Outcome, movesOf}
-use Rattle.index.specs.History.Sent.{plain, wide}
+use Rattle.index.specs.Wide.{names, Rising, WideFormed, maskIn, pairs, wideHalves, namesFrom, Sent, previousOf, newOf}
+use Rattle.index.specs.Wide.Sent.{plain, wide}
+use Rattle.index.specs.Calls.{blockNeeds, sentNeeds, Sends}
+use Rattle.index.specs.History.{movesOf}
 use Rattle.index.specs.work.Edits.{half}
 use Rattle.index.proofs.laws.Firsts.{first-passed}
 use Rattle.index.proofs.laws.message.HalfLetters.{moves-none}
@@ -105,10 +105,10 @@ half-rising m h l w = go (present m h) refl
     go true e = let g = w .lists h l e in (g .0 .2, g .1 .2)
     go false e = let z = w .absent h l e in rw (z .0, z .1) (tt, tt)
 
-pub counts-once : (b : List ℕ) (m : Sent) (b′ : List ℕ) → Outcome b m (0, b′) → CountsOnce (newOf m)
-unfolding Wide wideNeeds blockNeeds wideHalves
+pub counts-once : (b : List ℕ) (m : Sent) (b′ : List ℕ) → Sends b m (0, b′) → CountsOnce (newOf m)
+unfolding Sends sentNeeds blockNeeds wideHalves
 counts-once b (plain m) b′ h = plain-once m
 counts-once b (wide m) b′ h =
-    let p = first-passed (λ n. (n, b)) (Carried b (changes (widePrevious m) (wideNew m)) b) (0, b′) (λ o. o .0) (λ n. refl) (wideNeeds b m) (omega arith) refl h in
+    let p = first-passed (λ n. (n, b)) (Carried b (changes (previousOf (wide m)) (newOf (wide m))) b) (0, b′) (λ o. o .0) (λ n. refl) (sentNeeds b (wide m)) (omega arith) refl h in
     let r = half-rising m 1 (omega arith) (p .0 .1 .1 .0) in
     λ kind x y k. pairs-once (kindOf (kindIn m)) (maskWith m 1 (maskIn m 1)) kind x y k (names m 2) (names m 3) (r .0) (r .1)

@@ -16,7 +16,8 @@ use Rattle.index.specs.Message.{changes, Half, Change, taken, added}
 use Rattle.index.specs.Message.Change.{add}
 use Rattle.index.specs.Numbers.{Each}
 use Rattle.index.specs.Calls.{Makes, makeNeeds}
-use Rattle.index.specs.History.{Labelled, Statement, previousOf, newOf, left, others, after, History, movesOf, tally}
+use Rattle.index.specs.Wide.{previousOf, newOf}
+use Rattle.index.specs.History.{Labelled, Statement, left, others, after, History, movesOf, tally}
 use Rattle.index.specs.History.History.{nothing, accepted, refused}
 use Rattle.index.proofs.laws.demands.AnyOrder.{sum, down, up, balance}
 use Rattle.index.proofs.laws.demands.Pairs.{CountsOnce, counts-once}

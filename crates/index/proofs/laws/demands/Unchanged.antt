@@ -4,15 +4,16 @@ use Prim.Native.Nat.{ℕ, _<_}
 use native.Mathlib.Omega.{arith}
 use mathlib.Core.Path.{_≡_, refl}
 use mathlib.Core.List.{List}
-use Rattle.index.specs.Calls.{blockNeeds, setNeeds, makeNeeds, writeNeeds, Made, Makes, Message, Written, WritesSet, ReadsText, ReadsSet}
+use Rattle.index.specs.Calls.{blockNeeds, setNeeds, makeNeeds, writeNeeds, Made, Makes, Sends, Written, WritesSet, ReadsText, ReadsSet}
 use mathlib.Core.Logic.{inl, inr}
 use Rattle.index.specs.declared.Kind.{Kind}
 use Rattle.index.specs.Numbers.{First}
 use Rattle.index.specs.Message.{kindOf}
+use Rattle.index.specs.Wide.{Sent}
 use Rattle.index.specs.Text.{Place}
 use Rattle.index.proofs.laws.OneFirst.{first-cases}
 use Rattle.index.proofs.laws.Firsts.{Positive}
-use Rattle.index.proofs.laws.message.OneMessage.{message-cases, run-cases}
+use Rattle.index.proofs.laws.message.OneMessage.{sent-cases, run-cases}
 
 -- What is not accepted is a refusal with one of the numbers.
 first-refused : {O : Type 0} (number : O → ℕ) (refusal : ℕ → O) (accepted : O → Type 0) → ((o : O) → accepted o → number o ≡ 0)
@@ -25,9 +26,9 @@ pub make-unchanged : (b : List ℕ) (o : ℕ × List ℕ) → Makes b o → 0 < 
 unfolding Makes makeNeeds
 make-unchanged b = first-refused {O = ℕ × List ℕ} (λ o. o .0) (λ n. (n, b)) (Made b) (λ o a. a .0) (makeNeeds b) (omega arith)
 
-pub message-unchanged : (b m : List ℕ) (o : ℕ × List ℕ) → Message b m o → 0 < o .0 → (n : ℕ) × (o ≡ (n, b))
-message-unchanged b m =
-    message-cases b m (λ o. 0 < o .0 → (n : ℕ) × (o ≡ (n, b))) (λ n l h. (n, refl))
+pub sent-unchanged : (b : List ℕ) (m : Sent) (o : ℕ × List ℕ) → Sends b m o → 0 < o .0 → (n : ℕ) × (o ≡ (n, b))
+sent-unchanged b m =
+    sent-cases b m (λ o. 0 < o .0 → (n : ℕ) × (o ≡ (n, b))) (λ n l h. (n, refl))
     (run-cases (λ _ cs c o. 0 < o .0 → (n : ℕ) × (o ≡ (n, b))) b (λ cs c n l h. (n, refl)) (λ c h. absurd (omega arith))
     (λ c cs d e o w p. p) _ b)
 

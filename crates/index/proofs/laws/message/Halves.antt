@@ -10,15 +10,13 @@ use lib.Dec.{eqb}
 use Rattle.index.specs.declared.Kind.{Kind}
 use Rattle.index.specs.declared.Kind.the-variants.{Membership, Permission, Filter}
 use Rattle.index.specs.Letters.{letterCount, markerX, mayHave, In}
-use Rattle.index.specs.Block.{Sized}
-use Rattle.index.specs.Numbers.{Answers, Each}
-use Rattle.index.specs.Message.{kindOf, kindNumber, Half, halfCount, flags, present, halfAt, halves, previous, new, markerMask, Marked, WellFormed, Named, Masked, changes}
+use Rattle.index.specs.Numbers.{Each}
+use Rattle.index.specs.Message.{kindOf, kindNumber, Half, halfCount, flags, present, halfAt, halves, previous, new, markerMask, Marked, Masked, changes}
 use Rattle.index.specs.Message.Change.{take, add}
-use Rattle.index.specs.Calls.{blockNeeds, messageNeeds}
+use Rattle.index.specs.Wide.Sent.{plain}
 use Rattle.index.specs.work.Checks.{Says}
 use Rattle.index.specs.work.Edits.{bit, Ready, Tested}
 use Rattle.index.proofs.laws.Answer.{says-same}
-use Rattle.index.proofs.laws.Firsts.{All, passed, answers-next}
 use Rattle.index.proofs.laws.Range.{lt-or-le, Listed, listed}
 use Rattle.index.proofs.laws.block.MayHave.{AllMay, no-letter, marker-alike}
 
@@ -141,37 +139,8 @@ masked-byte h marked = (
 
 -- ---- the tests
 
-pub block-passed : (b : List ℕ) {r : ℕ} → r ≡ 0 → Answers (blockNeeds b) r → All (blockNeeds b)
-unfolding blockNeeds
-block-passed b e a = passed (blockNeeds b) (omega arith) e a
-
--- Those of the message by itself.
-abbrev pub ownNeeds : List ℕ → List (ℕ × Type 0)
-ownNeeds m =
-    (3, WellFormed m) ∷ (4, Each Named (previous m ++ new m)) ∷ (5, Each Masked (previous m ++ new m)) ∷ []
-
--- The tests of the block come first, whatever follows.
-pub block-late : (b : List ℕ) (ts : List (ℕ × Type 0)) {n : ℕ} (r : ℕ) → n ≡ 0 → Answers (blockNeeds b) n → Answers ts r
-    → Answers (blockNeeds b ++ ts) r
-block-late b ts r e p a = answers-next (blockNeeds b) ts r (block-passed b e p) a
-
-module _ (b m : List ℕ) {r : ℕ} (e : r ≡ 0) (a : Answers (messageNeeds b m) r) where
-  pub message-passed : All (messageNeeds b m)
-  unfolding messageNeeds blockNeeds
-  message-passed = passed (messageNeeds b m) (omega arith) e a
-
-  pub message-tested : Tested b m
-  unfolding messageNeeds blockNeeds Sized Named
-  message-tested =
-      let p = message-passed in
-      let named = each-part Named (previous m) (new m) (p .1 .1 .1 .0) in
-      let masked = each-part Masked (previous m) (new m) (p .1 .1 .1 .1 .0) in
-      let ready : (h : ℕ) → Each Named (halves m h) → Each Masked (halves m h) → present m h ≡ true → Ready (halfAt m h) b =
-      λ h n k e.
-      let n′ = rw (there m h e) at n in
-      let k′ = rw (there m h e) at k in
-      record { short = p .0 .1; good = p .1 .0; key-below = n′ .0 .0; id-below = n′ .0 .1; masked = k′ .0 } in
-      record {
-        formed = p .1 .1 .0;
-        ready = each-half (λ h. present m h ≡ true → Ready (halfAt m h) b) (ready 0 (named .0) (masked .0)) (ready 1 (named .1) (masked .1));
-      }
+-- Where they have passed, a half that is present is ready.
+pub half-ready : {b m : List ℕ} → Tested b (plain m) → (h : ℕ) → h < halfCount → present m h ≡ true → Ready (halfAt m h) b
+half-ready {b} {m} t =
+    let both = each-part (λ h. Ready h b) (previous m) (new m) (t .ready) in
+    each-half (λ h. present m h ≡ true → Ready (halfAt m h) b) (λ e. (rw (there m 0 e) at (both .0)) .0) (λ e. (rw (there m 1 e) at (both .1)) .0)

@@ -1,6 +1,6 @@
--- A test of an accepted message that computes: where it says yes, the message leaves the last of the blocks given.
-use Prim.Native.Nat.{ℕ, _+_, _/_, _%_, _^_, _<_, _≤_}
-use mathlib.Core.Path.{_≡_, refl, sym, _∙_}
+-- A test of an accepted message, plain or wide, that computes: where it says yes, the message leaves the last of the blocks given.
+use Prim.Native.Nat.{ℕ, _+_, _-_, _*_, _/_, _%_, _^_, _<_}
+use mathlib.Core.Path.{_≡_, refl}
 use mathlib.Core.Bool.{Bool, true, false, cond, _&&_, _||_}
 use mathlib.Core.List.{List, [], _∷_, _++_}
 use mathlib.Core.Logic.{_⊎_, inl, inr}
@@ -10,16 +10,19 @@ use lib.Dec.{eqb, ltb, leb}
 use lib.ListN.{length, getD}
 use Rattle.index.specs.declared.Kind.the-variants.{Membership}
 use Rattle.index.specs.Letters.{letterCount, mayHave}
-use Rattle.index.specs.Block.{greatestCount, nameCount, headerLength, greatestLength, Sized, Good, records, room}
-use Rattle.index.specs.Message.{IsKind, kindOf, Half, messageLength, halfLength, halfPlace, kindIn, flags, present, markers, markerMask, Marked, Begun, Blank, WellFormed, Named, Masked, Change, changes, ownCount, changeNeeds, Changed, Carried, previous, new}
+use Rattle.index.specs.Block.{greatestCount, nameCount, headerLength, greatestLength, Sized, records, room}
+use Rattle.index.specs.Message.{IsKind, kindOf, Half, messageLength, halfLength, halfPlace, kindIn, flags, present, markers, markerMask, Marked, Begun, Blank, WellFormed, Named, Masked, Change, changes, ownCount, changeNeeds, Changed, Carried}
 use Rattle.index.specs.Message.Change.{take, add}
+use Rattle.index.specs.Wide.{wideHeader, listCount, longestList, listLength, maskIn, listOffset, names, listPlace, ListGood, WideFormed, Sent, previousOf, newOf, FormedOf}
+use Rattle.index.specs.Wide.Sent.{plain, wide}
 use Rattle.index.specs.Numbers.{Each}
-use Rattle.index.specs.Calls.{Message, messageNeeds, blockNeeds}
+use Rattle.index.specs.Calls.{Sends, sentNeeds, blockNeeds}
 use Rattle.index.specs.work.Edits.{bit}
 use Rattle.index.proofs.laws.Tests.{both, all, all-at, some, some-at}
 use Rattle.index.proofs.laws.block.MayHave.{AllMay, all-may}
 use Rattle.index.proofs.laws.block.GoodTest.{goodTest, good-test}
 use Rattle.index.proofs.laws.message.Halves.{each-half, kind-one}
+use Rattle.index.proofs.laws.message.NameLists.{nameAt, rising-steps}
 use Rattle.index.proofs.laws.message.ChangeTest.{changeTest, change-test}
 
 -- ---- what a change needs
@@ -38,17 +41,6 @@ room-test b h true q e =
     inl (s .0, omega (arith, s .1), ltb-true _ _ (s .2))
 room-test b h false q e = inr (ltb-true _ _ e)
 
--- The changes, one after the other, through the blocks given.
-abbrev carryTest : List Change → List ℕ → List (List ℕ) → Bool
-carryTest [] b [] = true
-carryTest [] b (d ∷ ds) = false
-carryTest (c ∷ cs) b [] = false
-carryTest (c ∷ cs) b (d ∷ ds) = needTest c b && (changeTest c b d && carryTest cs d ds)
-
-abbrev pub lastOf : List ℕ → List (List ℕ) → List ℕ
-lastOf b [] = b
-lastOf b (d ∷ ds) = lastOf d ds
-
 step-test : (b₀ b d : List ℕ) (c : Change) (o : ℕ × List ℕ) (cs : List Change) → needTest c b ≡ true → Changed c b d → Carried b₀ cs d o
     → Carried b₀ (c ∷ cs) b o
 unfolding Carried changeNeeds
@@ -64,16 +56,36 @@ step-test b₀ b d (add h) o cs e w r =
       inr (room-test b h _ refl (p .1), (d, w, r)),
     )
 
-carry-test : (b₀ : List ℕ) (cs : List Change) (b : List ℕ) (ds : List (List ℕ)) → carryTest cs b ds ≡ true
-    → Carried b₀ cs b (0, lastOf b ds)
+abbrev pub lastOf : List ℕ → List (List ℕ) → List ℕ
+lastOf b [] = b
+lastOf b (d ∷ ds) = lastOf d ds
+
+-- The changes, one after the other, through the blocks given; the test `end` is of the block and of the changes that are left then.
+abbrev pub throughTest : (List Change → List ℕ → Bool) → List Change → List ℕ → List (List ℕ) → Bool
+throughTest end cs b [] = end cs b
+throughTest end [] b (d ∷ ds) = false
+throughTest end (c ∷ cs) b (d ∷ ds) = needTest c b && (changeTest c b d && throughTest end cs d ds)
+
+module _ (end : List Change → List ℕ → Bool) (b₀ : List ℕ) (o : List ℕ → ℕ × List ℕ)
+    (sound : (cs : List Change) (b : List ℕ) → end cs b ≡ true → Carried b₀ cs b (o b)) where
+  pub through-test : (cs : List Change) (b : List ℕ) (ds : List (List ℕ)) → throughTest end cs b ds ≡ true
+      → Carried b₀ cs b (o (lastOf b ds))
+  through-test cs b [] e = sound cs b e
+  through-test [] b (d ∷ ds) e = let z : _≡_ {A = ℕ} 0 1 = cc in absurd (omega arith)
+  through-test (c ∷ cs) b (d ∷ ds) e =
+      let p = both (needTest c b) _ e in
+      let q = both (changeTest c b d) _ (p .1) in
+      step-test b₀ b d c (o (lastOf d ds)) cs (p .0) (change-test c b d (q .0)) (through-test cs d ds (q .1))
+
+-- No change is left.
+abbrev noneLeft : List Change → List ℕ → Bool
+noneLeft [] b = true
+noneLeft (c ∷ cs) b = false
+
+none-left : (b₀ : List ℕ) (cs : List Change) (b : List ℕ) → noneLeft cs b ≡ true → Carried b₀ cs b (0, b)
 unfolding Carried
-carry-test b₀ [] b [] e = refl
-carry-test b₀ [] b (d ∷ ds) e = let z : _≡_ {A = ℕ} 0 1 = cc in absurd (omega arith)
-carry-test b₀ (c ∷ cs) b [] e = let z : _≡_ {A = ℕ} 0 1 = cc in absurd (omega arith)
-carry-test b₀ (c ∷ cs) b (d ∷ ds) e =
-    let p = both (needTest c b) _ e in
-    let q = both (changeTest c b d) _ (p .1) in
-    step-test b₀ b d c (0, lastOf d ds) cs (p .0) (change-test c b d (q .0)) (carry-test b₀ cs d ds (q .1))
+none-left b₀ [] b e = refl
+none-left b₀ (c ∷ cs) b e = let z : _≡_ {A = ℕ} 0 1 = cc in absurd (omega arith)
 
 -- ---- the message itself
 
@@ -118,11 +130,11 @@ begun-test m e =
       marked = each-half (λ h. Marked (markers m h) (kindOf (kindIn m)) (present m h)) (marked-test m 0 (u .0)) (marked-test m 1 (u .1));
     }
 
-abbrev formTest : List ℕ → Bool
-formTest m = eqb (length m) messageLength && (begunTest m && (blankTest m 0 && blankTest m 1))
+abbrev plainTest : List ℕ → Bool
+plainTest m = eqb (length m) messageLength && (begunTest m && (blankTest m 0 && blankTest m 1))
 
-form-test : (m : List ℕ) → formTest m ≡ true → WellFormed m
-form-test m e =
+plain-test : (m : List ℕ) → plainTest m ≡ true → WellFormed m
+plain-test m e =
     let p = both (eqb (length m) messageLength) _ e in
     let q = both (begunTest m) _ (p .1) in
     let u = both (blankTest m 0) (blankTest m 1) (q .1) in
@@ -131,6 +143,74 @@ form-test m e =
       begun = begun-test m (q .0);
       absent = each-half (λ h. present m h ≡ false → Blank m h) (blank-test m 0 (u .0)) (blank-test m 1 (u .1));
     }
+
+-- A list of a wide message; a half of it; and all of it.
+module _ (m : List ℕ) where
+  abbrev stepTest : ℕ → ℕ → Bool
+  stepTest q j = ltb (nameAt m (listOffset m q) j) (nameAt m (listOffset m q) (j + 1))
+
+  abbrev listTest : ℕ → Bool
+  listTest q = leb 1 (listLength m q) && (leb (listLength m q) longestList && all (stepTest q) 0 (listLength m q - 1))
+
+  list-test : (q : ℕ) → listTest q ≡ true → ListGood m q
+  unfolding names
+  list-test q e =
+      let r = both (leb 1 (listLength m q)) _ e in
+      let s = both (leb (listLength m q) longestList) _ (r .1) in
+      let rises = rising-steps m (listOffset m q) (listLength m q)
+      (λ j l. ltb-true _ _ (all-at (stepTest q) 0 (listLength m q - 1) (s .1) j (omega arith) (omega arith))) in
+      (leb-true _ _ (r .0), leb-true _ _ (s .0), rises)
+
+  abbrev absentTest : ℕ → Bool
+  absentTest h = eqb (listLength m (2 * h)) 0 && (eqb (listLength m (2 * h + 1)) 0 && eqb (maskIn m h) 0)
+
+  abbrev halfTest : ℕ → Bool
+  halfTest h = cond (present m h) (listTest (2 * h) && listTest (2 * h + 1)) (absentTest h)
+
+  absent-test : (h : ℕ) → halfTest h ≡ true → present m h ≡ false
+      → (listLength m (2 * h) ≡ 0) × (listLength m (2 * h + 1) ≡ 0) × (maskIn m h ≡ 0)
+  absent-test h e f =
+      let p = both (eqb (listLength m (2 * h)) 0) _ (rw f at e) in
+      let q = both (eqb (listLength m (2 * h + 1)) 0) _ (p .1) in
+      (eqb-true _ _ (p .0), eqb-true _ _ (q .0), eqb-true _ _ (q .1))
+
+  lists-test : (h : ℕ) → halfTest h ≡ true → present m h ≡ true → ListGood m (2 * h) × ListGood m (2 * h + 1)
+  lists-test h e f =
+      let p = both (listTest (2 * h)) (listTest (2 * h + 1)) (rw f at e) in
+      (list-test (2 * h) (p .0), list-test (2 * h + 1) (p .1))
+
+  abbrev placeTest : ℕ → Bool
+  placeTest q = eqb (listOffset m q) (listPlace m q)
+
+  abbrev wideTest : Bool
+  wideTest =
+      leb wideHeader (length m)
+      && (begunTest m
+      && (all placeTest 0 listCount && (eqb (length m) (listPlace m listCount) && (halfTest 0 && halfTest 1))))
+
+  wide-test : wideTest ≡ true → WideFormed m
+  wide-test e =
+      let p = both (leb wideHeader (length m)) _ e in
+      let q = both (begunTest m) _ (p .1) in
+      let r = both (all placeTest 0 listCount) _ (q .1) in
+      let s = both (eqb (length m) (listPlace m listCount)) _ (r .1) in
+      let u = both (halfTest 0) (halfTest 1) (s .1) in
+      record {
+        header = leb-true _ _ (p .0);
+        begun = begun-test m (q .0);
+        offsets = λ n l. eqb-true _ _ (all-at placeTest 0 listCount (r .0) n (omega arith) l);
+        ends = eqb-true _ _ (s .0);
+        absent = each-half _ (absent-test 0 (u .0)) (absent-test 1 (u .1));
+        lists = each-half _ (lists-test 0 (u .0)) (lists-test 1 (u .1));
+      }
+
+abbrev pub formTest : Sent → Bool
+formTest (plain m) = plainTest m
+formTest (wide m) = wideTest m
+
+pub form-test : (m : Sent) → formTest m ≡ true → FormedOf m
+form-test (plain m) e = plain-test m e
+form-test (wide m) e = wide-test m e
 
 abbrev pub maskTest : Half → Bool
 maskTest h = ltb (h .mask) (2 ^ letterCount) && all (λ k. ltb (bit (h .mask) k) 1 || mayHave (h .kind) k) 0 letterCount
@@ -159,22 +239,30 @@ halves-test (h ∷ hs) e =
     let w = halves-test hs (s .1) in
     (((ltb-true _ _ (p .0), ltb-true _ _ (q .0)), w .0), ((ltb-true _ _ (r .0), mask-test h (s .0)), w .1))
 
-abbrev pub messageTest : List ℕ → List ℕ → List (List ℕ) → Bool
-messageTest b m ds =
+-- It passes the tests 1 to 5, so that its changes decide.
+abbrev pub passTest : List ℕ → Sent → Bool
+passTest b m =
     leb headerLength (length b)
-    && (leb (length b) greatestLength
-    && (goodTest b && (formTest m && (halvesTest (previous m ++ new m) && carryTest (changes (previous m) (new m)) b ds))))
+    && (leb (length b) greatestLength && (goodTest b && (formTest m && halvesTest (previousOf m ++ newOf m))))
 
-pub message-test : (b m : List ℕ) (ds : List (List ℕ)) → messageTest b m ds ≡ true → Message b m (0, lastOf b ds)
-unfolding Message messageNeeds blockNeeds Sized
-message-test b m ds e =
+pub pass-test : (b : List ℕ) (m : Sent) (o : ℕ × List ℕ) → passTest b m ≡ true → Carried b (changes (previousOf m) (newOf m)) b o
+    → Sends b m o
+unfolding Sends sentNeeds blockNeeds Sized
+pass-test b m o e c =
     let p = both (leb headerLength (length b)) _ e in
     let q = both (leb (length b) greatestLength) _ (p .1) in
     let r = both (goodTest b) _ (q .1) in
     let s = both (formTest m) _ (r .1) in
-    let t = both (halvesTest (previous m ++ new m)) _ (s .1) in
-    let h = halves-test (previous m ++ new m) (t .0) in
+    let h = halves-test (previousOf m ++ newOf m) (s .1) in
     inr (
       (leb-true _ _ (p .0), leb-true _ _ (q .0)),
-      inr (good-test b (r .0), inr (form-test m (s .0), inr (h .0, inr (h .1, carry-test b (changes (previous m) (new m)) b ds (t .1))))),
+      inr (good-test b (r .0), inr (form-test m (s .0), inr (h .0, inr (h .1, c)))),
     )
+
+abbrev pub sentTest : List ℕ → Sent → List (List ℕ) → Bool
+sentTest b m ds = passTest b m && throughTest noneLeft (changes (previousOf m) (newOf m)) b ds
+
+pub sent-test : (b : List ℕ) (m : Sent) (ds : List (List ℕ)) → sentTest b m ds ≡ true → Sends b m (0, lastOf b ds)
+sent-test b m ds e =
+    let p = both (passTest b m) _ e in
+    pass-test b m (0, lastOf b ds) (p .0) (through-test noneLeft b (λ b. (0, b)) (none-left b) (changes (previousOf m) (newOf m)) b ds (p .1))

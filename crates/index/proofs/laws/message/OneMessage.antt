@@ -1,13 +1,11 @@
--- A change, a run of changes and a message have one outcome.
+-- A change, a run of changes and a message, plain or wide, have one outcome.
 use Prim.Native.Nat.{ℕ, _<_}
 use native.Mathlib.Omega.{arith}
 use mathlib.Core.Path.{_≡_, sym, _∙_}
 use mathlib.Core.List.{List, [], _∷_}
-use Rattle.index.specs.Message.{previous, new, Change, Changed, Carried, changeNeeds, changes, packedChanges}
-use Rattle.index.specs.Wide.{widePrevious, wideNew}
-use Rattle.index.specs.Calls.{Message, Wide, CarriesOut, blockNeeds, messageNeeds, wideNeeds, listNeeds}
-use Rattle.index.specs.History.{Sent, previousOf, newOf, Outcome}
-use Rattle.index.specs.History.Sent.{plain, wide}
+use Rattle.index.specs.Message.{Change, Changed, Carried, changeNeeds, changes, packedChanges}
+use Rattle.index.specs.Wide.{Sent, previousOf, newOf}
+use Rattle.index.specs.Calls.{Sends, CarriesOut, blockNeeds, sentNeeds, listNeeds}
 use Rattle.index.proofs.laws.block.Canonical.{canonical}
 use Rattle.index.proofs.laws.OneFirst.{one-first, first-cases}
 use Rattle.index.proofs.laws.Firsts.{Positive}
@@ -24,9 +22,10 @@ one-run b₀ (c ∷ cs) b o o′ p q =
     one-first (λ n. (n, b₀)) (changeNeeds c b) (λ p. (b₁ : List ℕ) × Changed c b b₁ × Carried b₀ cs b₁ p)
     (λ o o′ s t. one-run b₀ cs (t .0) o o′ (rw (one-change (s .1) (t .1)) at (s .2)) (t .2)) o o′ p q
 
-pub one-message : (b m : List ℕ) (o o′ : ℕ × List ℕ) → Message b m o → Message b m o′ → o ≡ o′
-unfolding Message
-one-message b m = one-first (λ n. (n, b)) (messageNeeds b m) (Carried b (changes (previous m) (new m)) b) (one-run b (changes (previous m) (new m)) b)
+pub one-sent : (b : List ℕ) (m : Sent) (o o′ : ℕ × List ℕ) → Sends b m o → Sends b m o′ → o ≡ o′
+unfolding Sends
+one-sent b m =
+    one-first (λ n. (n, b)) (sentNeeds b m) (Carried b (changes (previousOf m) (newOf m)) b) (one-run b (changes (previousOf m) (newOf m)) b)
 
 pub one-list : (b cs : List ℕ) (o o′ : ℕ × List ℕ) → CarriesOut b cs o → CarriesOut b cs o′ → o ≡ o′
 unfolding CarriesOut
@@ -49,19 +48,8 @@ module _ (P : List ℕ → List Change → List ℕ → ℕ × List ℕ → Type
       (λ o h. w c cs b (h .0) o (h .1) (run-cases cs (h .0) o (h .2))) (changeNeeds c b) (changes-positive c b) o h
 
 -- A message is refused, and the block is what it was, or its changes are run.
-pub message-cases : (b m : List ℕ) (P : ℕ × List ℕ → Type 0) → ((n : ℕ) → 0 < n → P (n, b))
-    → ((o : ℕ × List ℕ) → Carried b (changes (previous m) (new m)) b o → P o) → (o : ℕ × List ℕ) → Message b m o → P o
-unfolding Message messageNeeds blockNeeds
-message-cases b m P u v = first-cases P (λ n. 0 < n) (λ n. (n, b)) (Carried b (changes (previous m) (new m)) b) u v (messageNeeds b m) (omega arith)
-
--- The same of whatever is sent.
 pub sent-cases : (b : List ℕ) (m : Sent) (P : ℕ × List ℕ → Type 0) → ((n : ℕ) → 0 < n → P (n, b))
-    → ((o : ℕ × List ℕ) → Carried b (changes (previousOf m) (newOf m)) b o → P o) → (o : ℕ × List ℕ) → Outcome b m o → P o
-unfolding Wide wideNeeds blockNeeds
-sent-cases b (plain m) P u v = message-cases b m P u v
-sent-cases b (wide m) P u v = first-cases P (λ n. 0 < n) (λ n. (n, b)) (Carried b (changes (widePrevious m) (wideNew m)) b) u v (wideNeeds b m) (omega arith)
-
-pub one-sent : (b : List ℕ) (m : Sent) (o o′ : ℕ × List ℕ) → Outcome b m o → Outcome b m o′ → o ≡ o′
-unfolding Wide
-one-sent b (plain m) = one-message b m
-one-sent b (wide m) = one-first (λ n. (n, b)) (wideNeeds b m) (Carried b (changes (widePrevious m) (wideNew m)) b) (one-run b (changes (widePrevious m) (wideNew m)) b)
+    → ((o : ℕ × List ℕ) → Carried b (changes (previousOf m) (newOf m)) b o → P o) → (o : ℕ × List ℕ) → Sends b m o → P o
+unfolding Sends sentNeeds blockNeeds
+sent-cases b m P u v =
+    first-cases P (λ n. 0 < n) (λ n. (n, b)) (Carried b (changes (previousOf m) (newOf m)) b) u v (sentNeeds b m) (omega arith)

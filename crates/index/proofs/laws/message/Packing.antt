@@ -42,7 +42,7 @@ module _ (kind x y mask : ℕ) (lx : x < 65536) (ly : y < 65536) (lm : mask < 65
 
 -- ---- a list of changes is prepared where each of them is
 
-half-change : (n : ℕ) → halfOf (packedChange n) ≡ packedHalf n
+pub half-change : (n : ℕ) → halfOf (packedChange n) ≡ packedHalf n
 unfolding packedChange
 half-change n = go (eqb (n % 2) 0)
   where

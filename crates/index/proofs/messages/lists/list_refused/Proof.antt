@@ -8,7 +8,7 @@ use Rattle.index.specs.Calls.{blockNeeds, listNeeds}
 use Rattle.index.specs.work.Edits.{PassesTest}
 use Rattle.index.proofs.laws.Answer.{yes-not, no-not}
 use Rattle.index.proofs.laws.message.ListTests.{ownNeeds}
-use Rattle.index.proofs.laws.message.Halves.{block-late}
+use Rattle.index.proofs.laws.message.SentTests.{block-late}
 use Rattle.index.proofs.laws.Firsts.{answers-first}
 use Rattle.index.proofs.messages.lists.list_refused.Statement.{statement}
 use Rattle.index.proofs.messages.lists.list_refused.Tie as tie

@@ -4,8 +4,8 @@ use mathlib.Core.Logic.{inl, inr, ⊎-elim}
 use native.Mathlib.Omega.{arith}
 use Rattle.index.specs.Message.{Marked}
 use Rattle.index.proofs.laws.message.Halves.{kind-one, there-says}
-use Rattle.index.proofs.messages.halves.is_marked.Statement.{statement}
-use Rattle.index.proofs.messages.halves.is_marked.Tie as tie
+use Rattle.index.proofs.messages.beginning.is_marked.Statement.{statement}
+use Rattle.index.proofs.messages.beginning.is_marked.Tie as tie
 
 returns : tie.Need-returns
 unfolding Marked

@@ -3,8 +3,8 @@ use mathlib.Core.Path.{refl}
 use native.Mathlib.Omega.{arith}
 use borrow.Author.Needs.{needs}
 use Rattle.index.specs.Message.{kindIn}
-use Rattle.index.proofs.messages.halves.kind_in.Statement.{statement}
-use Rattle.index.proofs.messages.halves.kind_in.Tie as tie
+use Rattle.index.proofs.messages.beginning.kind_in.Statement.{statement}
+use Rattle.index.proofs.messages.beginning.kind_in.Tie as tie
 
 returns : tie.Need-returns
 unfolding kindIn

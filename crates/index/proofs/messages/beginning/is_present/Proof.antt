@@ -2,8 +2,8 @@
 use mathlib.Core.Path.{refl}
 use borrow.Author.Needs.{needs}
 use Rattle.index.specs.Message.{flags, present}
-use Rattle.index.proofs.messages.halves.is_present.Statement.{statement}
-use Rattle.index.proofs.messages.halves.is_present.Tie as tie
+use Rattle.index.proofs.messages.beginning.is_present.Statement.{statement}
+use Rattle.index.proofs.messages.beginning.is_present.Tie as tie
 
 returns : tie.Need-returns
 unfolding flags present

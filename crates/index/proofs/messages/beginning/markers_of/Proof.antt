@@ -3,8 +3,8 @@ use mathlib.Core.Path.{refl}
 use native.Mathlib.Omega.{arith}
 use borrow.Author.Needs.{needs}
 use Rattle.index.specs.Message.{markers}
-use Rattle.index.proofs.messages.halves.markers_of.Statement.{statement}
-use Rattle.index.proofs.messages.halves.markers_of.Tie as tie
+use Rattle.index.proofs.messages.beginning.markers_of.Statement.{statement}
+use Rattle.index.proofs.messages.beginning.markers_of.Tie as tie
 
 returns : tie.Need-returns
 unfolding markers

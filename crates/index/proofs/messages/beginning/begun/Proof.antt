@@ -4,8 +4,8 @@ use borrow.Author.Needs.{needs}
 use Rattle.index.specs.Message.{IsKind, kindOf, kindIn, flags, present, markers, Marked}
 use Rattle.index.proofs.laws.Answer.{yes-not, no-not, says-same}
 use Rattle.index.proofs.laws.message.Halves.{each-half}
-use Rattle.index.proofs.messages.plain.begun.Statement.{statement}
-use Rattle.index.proofs.messages.plain.begun.Tie as tie
+use Rattle.index.proofs.messages.beginning.begun.Statement.{statement}
+use Rattle.index.proofs.messages.beginning.begun.Tie as tie
 
 returns : tie.Need-returns
 unfolding IsKind
