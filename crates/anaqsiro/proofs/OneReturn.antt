@@ -6,17 +6,18 @@ use native.Mathlib.Omega.{arith}
 use Rattle.index.specs.Numbers.{Answers}
 use Rattle.index.specs.Block.{size}
 use Rattle.index.specs.Message.{IsKind, kindOf}
-use Rattle.index.specs.Calls.{blockNeeds, Makes, Message, WritesSet, ReadsSet}
+use Rattle.index.specs.Wide.{Sent}
+use Rattle.index.specs.Calls.{blockNeeds, Makes, Sends, WritesSet, ReadsSet}
 use Rattle.index.proofs.laws.demands.OneCall.{one-make, one-write, one-read}
 use Rattle.index.proofs.laws.block.OneDoor.{one-tested}
 use Rattle.index.proofs.laws.OneFirst.{one-first}
-use Rattle.index.proofs.laws.message.OneMessage.{one-message}
-use Rattle.directory.specs.By.{MakesDirectory, MessageBy, ReadBy, WriteBy}
-use Rattle.directory.proofs.OneBy.{one-made, one-message-by, one-read-by, one-write-by}
+use Rattle.index.proofs.laws.message.OneMessage.{one-sent}
+use Rattle.directory.specs.By.{MakesDirectory, SendsBy, ReadBy, WriteBy}
+use Rattle.directory.proofs.OneBy.{one-made, one-sent-by, one-read-by, one-write-by}
 use Rattle.rights.specs.Questions.{Full, Short, FullBy, ShortBy}
 use Rattle.rights.proofs.laws.questions.OneAnswer.{one-full, one-short}
 use Rattle.rights.proofs.laws.questions.SameAnswers.{one-full-by, one-short-by}
-use Rattle.anaqsiro.specs.Returned.{Packed, Returned, Parts, InParts, MakeReturns, MessageReturns, RightsReturns, MayReturns, WriteReturns, ReadReturns, DirectoryReturns, MessageByReturns, RightsByReturns, MayByReturns, WriteByReturns, ReadByReturns, TestedReturns, SizeReturns, RecordReturns, CountReturns}
+use Rattle.anaqsiro.specs.Returned.{Packed, Returned, Parts, InParts, MakeReturns, SendsReturns, RightsReturns, MayReturns, WriteReturns, ReadReturns, DirectoryReturns, SendsByReturns, RightsByReturns, MayByReturns, WriteByReturns, ReadByReturns, TestedReturns, SizeReturns, RecordReturns, CountReturns}
 
 -- The number is the upper half of what is returned, and the value the lower.
 pub halves : {n v r : ℕ} → Packed n v r → (n ≡ r / 4294967296) × (v ≡ r % 4294967296)
@@ -49,10 +50,10 @@ pub one-make-return : (b : List ℕ) (r r₂ : ℕ) (b′ b₂′ : List ℕ) �
 unfolding MakeReturns
 one-make-return b = one-return _ (one-number (Makes b) (one-make b))
 
-pub one-message-return : (b m : List ℕ) (r r₂ : ℕ) (b′ b₂′ : List ℕ) → MessageReturns b m r b′ → MessageReturns b m r₂ b₂′
+pub one-sent-return : (b : List ℕ) (m : Sent) (r r₂ : ℕ) (b′ b₂′ : List ℕ) → SendsReturns b m r b′ → SendsReturns b m r₂ b₂′
     → (r ≡ r₂) × (b′ ≡ b₂′)
-unfolding MessageReturns
-one-message-return b m = one-return _ (one-number (Message b m) (one-message b m))
+unfolding SendsReturns
+one-sent-return b m = one-return _ (one-number (Sends b m) (one-sent b m))
 
 -- ---- the calls on sets
 
@@ -121,10 +122,10 @@ module _ (Outcome : ℕ × ℕ × List ℕ × List ℕ → Type 0) (one : One Ou
       (e .0, ap (λ (s : List ℕ × List ℕ). s .0) (e .1), ap (λ (s : List ℕ × List ℕ). s .1) (e .1))
 
 module _ (b d : List ℕ) where
-  pub one-message-by-return : (m : List ℕ) (r r₂ : ℕ) (b₁ b₂ d₁ d₂ : List ℕ) → MessageByReturns b d m r b₁ d₁
-      → MessageByReturns b d m r₂ b₂ d₂ → (r ≡ r₂) × (b₁ ≡ b₂) × (d₁ ≡ d₂)
-  unfolding MessageByReturns
-  one-message-by-return m = one-both (MessageBy b d m) (one-message-by b d m)
+  pub one-sent-by-return : (m : Sent) (r r₂ : ℕ) (b₁ b₂ d₁ d₂ : List ℕ) → SendsByReturns b d m r b₁ d₁
+      → SendsByReturns b d m r₂ b₂ d₂ → (r ≡ r₂) × (b₁ ≡ b₂) × (d₁ ≡ d₂)
+  unfolding SendsByReturns
+  one-sent-by-return m = one-both (SendsBy b d m) (one-sent-by b d m)
 
   module _ (u o request : ℕ) where
     pub one-rights-by-return : (r r₂ : ℕ) → RightsByReturns b d u o request r → RightsByReturns b d u o request r₂ → r ≡ r₂

@@ -8,8 +8,10 @@ use lib.Dec.{ltb}
 use Rattle.index.specs.Numbers.{First, Answers}
 use Rattle.index.specs.Block.{size, key, id, countAt}
 use Rattle.index.specs.Message.{IsKind, kindOf}
-use Rattle.index.specs.Calls.{blockNeeds, Makes, Message, WritesSet, ReadsSet}
-use Rattle.directory.specs.By.{MakesDirectory, MessageBy, ReadBy, WriteBy}
+use Rattle.index.specs.Wide.{Sent}
+use Rattle.index.specs.Wide.Sent.{plain, wide}
+use Rattle.index.specs.Calls.{blockNeeds, Makes, Sends, WritesSet, ReadsSet}
+use Rattle.directory.specs.By.{MakesDirectory, SendsBy, ReadBy, WriteBy}
 use Rattle.rights.specs.Questions.{Full, Short, FullBy, ShortBy}
 
 -- The number n and the value v, which fits 32 bits, as one number r of 64 bits.
@@ -25,8 +27,15 @@ Returned Outcome r = (n : ℕ) × (v : ℕ) × Packed n v r × Outcome n v
 unfoldable pub MakeReturns : List ℕ → ℕ → List ℕ → Type 0
 MakeReturns b r b′ = Returned (λ n v. (v ≡ 0) × Makes b (n, b′)) r
 
-unfoldable pub MessageReturns : List ℕ → List ℕ → ℕ → List ℕ → Type 0
-MessageReturns b m r b′ = Returned (λ n v. (v ≡ 0) × Message b m (n, b′)) r
+-- A message, plain or wide (M-100).
+unfoldable pub SendsReturns : List ℕ → Sent → ℕ → List ℕ → Type 0
+SendsReturns b s r b′ = Returned (λ n v. (v ≡ 0) × Sends b s (n, b′)) r
+
+abbrev pub MessageReturns : List ℕ → List ℕ → ℕ → List ℕ → Type 0
+MessageReturns b m r b′ = SendsReturns b (plain m) r b′
+
+abbrev pub WideReturns : List ℕ → List ℕ → ℕ → List ℕ → Type 0
+WideReturns b m r b′ = SendsReturns b (wide m) r b′
 
 -- M-109: the rights, plus 2^4 times "the number of membership records examined" on the user's side, plus 2^18 times that on the
 -- object's, as one value v. None of the three runs into the next.
@@ -57,8 +66,14 @@ ReadReturns b kind x text r b′ = Returned (λ n v. ReadsSet b kind x text (n, 
 unfoldable pub DirectoryReturns : List ℕ → List ℕ → ℕ → List ℕ → Type 0
 DirectoryReturns b d r d′ = Returned (λ n v. (v ≡ 0) × MakesDirectory b d (n, d′)) r
 
-unfoldable pub MessageByReturns : List ℕ → List ℕ → List ℕ → ℕ → List ℕ → List ℕ → Type 0
-MessageByReturns b d m r b′ d′ = Returned (λ n v. MessageBy b d m (n, v, b′, d′)) r
+unfoldable pub SendsByReturns : List ℕ → List ℕ → Sent → ℕ → List ℕ → List ℕ → Type 0
+SendsByReturns b d s r b′ d′ = Returned (λ n v. SendsBy b d s (n, v, b′, d′)) r
+
+abbrev pub MessageByReturns : List ℕ → List ℕ → List ℕ → ℕ → List ℕ → List ℕ → Type 0
+MessageByReturns b d m r b′ d′ = SendsByReturns b d (plain m) r b′ d′
+
+abbrev pub WideByReturns : List ℕ → List ℕ → List ℕ → ℕ → List ℕ → List ℕ → Type 0
+WideByReturns b d m r b′ d′ = SendsByReturns b d (wide m) r b′ d′
 
 unfoldable pub RightsByReturns : List ℕ → List ℕ → ℕ → ℕ → ℕ → ℕ → Type 0
 RightsByReturns b d u o request r = Returned (InParts (FullBy b d u o request)) r

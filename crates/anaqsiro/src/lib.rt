@@ -7,7 +7,7 @@ use rights::Answer;
 use rights::Rights;
 ghost use mathlib.Core.Path.{_≡_};
 ghost use Prim.Native.Nat.{_<_};
-ghost use Rattle.anaqsiro.specs.Returned.{Packed, Parts, MakeReturns, MessageReturns, RightsReturns, MayReturns, WriteReturns, ReadReturns, DirectoryReturns, MessageByReturns, RightsByReturns, MayByReturns, WriteByReturns, ReadByReturns, TestedReturns, SizeReturns, RecordReturns, CountReturns};
+ghost use Rattle.anaqsiro.specs.Returned.{Packed, Parts, MakeReturns, MessageReturns, WideReturns, RightsReturns, MayReturns, WriteReturns, ReadReturns, DirectoryReturns, MessageByReturns, WideByReturns, RightsByReturns, MayByReturns, WriteByReturns, ReadByReturns, TestedReturns, SizeReturns, RecordReturns, CountReturns};
 ghost use Rattle.anaqsiro.specs.work.Answered.{RightsFit, RightsAs, AnswerAs, WroteFits, WroteAs, TookFits, TookAs};
 
 // The number and the value as one number.
@@ -92,6 +92,14 @@ pub extern "C" fn anaqsiro_message(block: &mut [u8], message: &[u8]) -> u64
     packed(index::message(block, message), 0)
 }
 
+// A wide message to a block.
+#[no_mangle]
+pub extern "C" fn anaqsiro_wide(block: &mut [u8], message: &[u8]) -> u64
+    ensures { λ r. ⌜ WideReturns (now (block .entry)) (now (message .entry)) r (now (block .exit)) ⌝ }
+{
+    packed(index::wide(block, message), 0)
+}
+
 // The full question.
 #[no_mangle]
 pub extern "C" fn anaqsiro_rights(block: &[u8], user: u64, object: u64, request: u64) -> u64
@@ -143,6 +151,13 @@ pub extern "C" fn anaqsiro_message_by(
     ensures { λ r. ⌜ MessageByReturns (now (block .entry)) (now (directory .entry)) (now (message .entry)) r (now (block .exit)) (now (directory .exit)) ⌝ }
 {
     packed(directory::message_by(block, directory, message), 0)
+}
+
+#[no_mangle]
+pub extern "C" fn anaqsiro_wide_by(block: &mut [u8], directory: &mut [u16], message: &[u8]) -> u64
+    ensures { λ r. ⌜ WideByReturns (now (block .entry)) (now (directory .entry)) (now (message .entry)) r (now (block .exit)) (now (directory .exit)) ⌝ }
+{
+    packed(directory::wide_by(block, directory, message), 0)
 }
 
 #[no_mangle]

@@ -9,11 +9,12 @@ use Rattle.index.specs.declared.Wrote.the-variants as wrote
 use Rattle.index.specs.declared.Took.{Took}
 use Rattle.index.specs.declared.Took.the-variants as took
 use Rattle.index.specs.Numbers.{First}
-use Rattle.index.specs.Calls.{blockNeeds, Message, WritesSet, ReadsSet, WriteAnswers, ReadAnswers}
-use Rattle.index.proofs.laws.message.OneMessage.{one-message}
+use Rattle.index.specs.Wide.{Sent}
+use Rattle.index.specs.Calls.{blockNeeds, Sends, WritesSet, ReadsSet, WriteAnswers, ReadAnswers}
+use Rattle.index.proofs.laws.message.OneMessage.{one-sent}
 use Rattle.index.proofs.laws.demands.OneCall.{one-wrote, one-took}
 use Rattle.directory.specs.Directory.{Own}
-use Rattle.directory.specs.By.{directoryNeeds, By, KeptBy, MessageBy, ReadBy, WriteBy, WriteAnswersBy, ReadAnswersBy}
+use Rattle.directory.specs.By.{directoryNeeds, By, KeptBy, SendsBy, ReadBy, WriteBy, WriteAnswersBy, ReadAnswersBy}
 use Rattle.directory.proofs.Passing.{Tests, read-tests, write-tests}
 use Rattle.directory.proofs.Keeping.{Valued, valued-tests}
 
@@ -61,11 +62,11 @@ kept-as-without b d Call tests o not13 k = go k
 -- ---- the calls: their answers are those of the calls without a directory
 
 module _ (b d : List ℕ) where
-  pub same-message : (m : List ℕ) (n n′ : ℕ) (b₁ b₂ d₁ : List ℕ) → (n ≡ 13 → ⊥) → MessageBy b d m (n, 0, b₁, d₁) → Message b m (n′, b₂)
+  pub same-sent : (m : Sent) (n n′ : ℕ) (b₁ b₂ d₁ : List ℕ) → (n ≡ 13 → ⊥) → SendsBy b d m (n, 0, b₁, d₁) → Sends b m (n′, b₂)
       → (n ≡ n′) × (b₁ ≡ b₂)
-  unfolding MessageBy
-  same-message m n n′ b₁ b₂ d₁ not13 p q =
-      let e = one-message b m (n, b₁) (n′, b₂) (kept-as-without b d (Valued b m) (valued-tests b m) (n, 0, b₁, d₁) not13 p .1) q in
+  unfolding SendsBy
+  same-sent m n n′ b₁ b₂ d₁ not13 p q =
+      let e = one-sent b m (n, b₁) (n′, b₂) (kept-as-without b d (Valued b m) (valued-tests b m) (n, 0, b₁, d₁) not13 p .1) q in
       (ap (λ (o : ℕ × List ℕ). o .0) e, ap (λ (o : ℕ × List ℕ). o .1) e)
 
   module _ (kind x : ℕ) (s : List ℕ) where

@@ -5,10 +5,11 @@ use mathlib.Core.List.{List, [], _∷_, _++_}
 use mathlib.Core.Logic.{_↔_, inl, inr}
 use Rattle.index.specs.Numbers.{First, Each}
 use Rattle.index.specs.Block.{IsName}
-use Rattle.index.specs.Message.{IsKind, kindOf, previous, new, changes, WellFormed, Named, Masked, Carried}
-use Rattle.index.specs.Calls.{blockNeeds, messageNeeds, setNeeds, Message, ReadsText, ReadsSet}
+use Rattle.index.specs.Message.{IsKind, kindOf, changes, Named, Masked, Carried}
+use Rattle.index.specs.Wide.{Sent, previousOf, newOf, FormedOf}
+use Rattle.index.specs.Calls.{blockNeeds, sentNeeds, setNeeds, Sends, ReadsText, ReadsSet}
 use Rattle.directory.specs.Directory.{Own}
-use Rattle.directory.specs.By.{directoryNeeds, By, KeptBy, MessageBy, ReadBy}
+use Rattle.directory.specs.By.{directoryNeeds, By, KeptBy, SendsBy, ReadBy}
 use Rattle.directory.proofs.OneDirectory.{one-directory}
 
 module _ {O : Type 0} (b d : List ℕ) (refused : ℕ → O) (ts : List (ℕ × Type 0)) (accepted : O → Type 0) (o : O) where
@@ -70,7 +71,7 @@ module _ {O R : Type 0} (front : O → R) (Beside : O → Type 0) (refused : ℕ
         back (inr (s, inr (g, inl p))) = inr (s, inr (g, inl p))
         back (inr (s, inr (g, inr (w, p)))) = inr (s, inr (g, inr (w, is .1 (taken-apart (blockNeeds b ++ ts) w p))))
 
--- ---- the two calls
+-- ---- the calls
 
 module _ (b d : List ℕ) (o : ℕ × ℕ × List ℕ × List ℕ) where
   -- The block is as it was, and so is its one directory.
@@ -80,25 +81,25 @@ module _ (b d : List ℕ) (o : ℕ × ℕ × List ℕ × List ℕ) where
   left : {n : ℕ} {o : ℕ × ℕ × List ℕ × List ℕ} → Own b d → o ≡ (n, 0, b, d) → Own (o .2) (o .3)
   left own e = rw (ap (λ (r : ℕ × ℕ × List ℕ × List ℕ). r .2) e, ap (λ (r : ℕ × ℕ × List ℕ × List ℕ). r .3) e) own
 
-  pub message-in-order : (m : List ℕ) → MessageBy b d m o
+  pub sent-in-order : (m : Sent) → SendsBy b d m o
       ↔ First (λ n. (n, 0, b, d))
       (blockNeeds b
       ++ ((13, Own b d)
-      ∷ (3, WellFormed m)
-      ∷ (4, Each Named (previous m ++ new m))
-      ∷ (5, Each Masked (previous m ++ new m))
+      ∷ (3, FormedOf m)
+      ∷ (4, Each Named (previousOf m ++ newOf m))
+      ∷ (5, Each Masked (previousOf m ++ newOf m))
       ∷ []))
-      (λ o. Carried b (changes (previous m) (new m)) b (o .0, o .2) × ((o .1 ≡ 0) × Own (o .2) (o .3))) o
-  unfolding MessageBy KeptBy Message messageNeeds
-  message-in-order m =
+      (λ o. Carried b (changes (previousOf m) (newOf m)) b (o .0, o .2) × ((o .1 ≡ 0) × Own (o .2) (o .3))) o
+  unfolding SendsBy KeptBy Sends sentNeeds
+  sent-in-order m =
       kept-in-order {O = ℕ × ℕ × List ℕ × List ℕ} {R = ℕ × List ℕ} (λ o. (o .0, o .2)) (λ o. (o .1 ≡ 0) × Own (o .2) (o .3)) (λ n. (n, 0, b, d))
       (λ n. (n, b)) b d
       (λ own n o e side.
       let same = as-it-came own (ap (λ (r : ℕ × List ℕ). r .1) e) (side .1) in
       λ i. (e i .0, side .0 i, e i .1, same i))
-      (λ own n o e. (λ i. (e i .0, e i .2), (λ i. e i .1, left own e))) (Carried b (changes (previous m) (new m)) b) o
-      ((3, WellFormed m) ∷ (4, Each Named (previous m ++ new m)) ∷ (5, Each Masked (previous m ++ new m)) ∷ [])
-      (λ o. ((o .1 ≡ 0) × Message b m (o .0, o .2)) × Own (o .2) (o .3))
+      (λ own n o e. (λ i. (e i .0, e i .2), (λ i. e i .1, left own e))) (Carried b (changes (previousOf m) (newOf m)) b) o
+      ((3, FormedOf m) ∷ (4, Each Named (previousOf m ++ newOf m)) ∷ (5, Each Masked (previousOf m ++ newOf m)) ∷ [])
+      (λ o. ((o .1 ≡ 0) × Sends b m (o .0, o .2)) × Own (o .2) (o .3))
       (λ p. (p .0 .1, (p .0 .0, p .1)), λ p. ((p .1 .0, p .0), p .1 .1))
 
   pub read-in-order : (kind x : ℕ) (text : List ℕ) → ReadBy b d kind x text o

@@ -12,14 +12,15 @@ use Rattle.index.specs.declared.Took.the-variants as took
 use Rattle.index.specs.Numbers.{First, Answers}
 use Rattle.index.specs.Block.{Good}
 use Rattle.index.specs.Message.{kindOf}
-use Rattle.index.specs.Calls.{blockNeeds, setNeeds, Message, ReadsText, ReadsSet, ReadAnswers}
+use Rattle.index.specs.Wide.{Sent}
+use Rattle.index.specs.Calls.{blockNeeds, setNeeds, Sends, ReadsText, ReadsSet, ReadAnswers}
 use Rattle.index.proofs.Took.{the-type}
 use Rattle.index.proofs.laws.Firsts.{first-passed}
 use Rattle.index.proofs.laws.message.StaysGood.{stays-good}
-use Rattle.index.proofs.laws.demands.Unchanged.{message-unchanged, read-unchanged}
+use Rattle.index.proofs.laws.demands.Unchanged.{sent-unchanged, read-unchanged}
 use Rattle.directory.specs.Directory.{Own}
-use Rattle.directory.specs.By.{directoryNeeds, KeptBy, MessageBy, ReadBy, ReadAnswersBy}
-use Rattle.directory.proofs.Passing.{Tests, by-refused, by-own, message-tests, read-tests}
+use Rattle.directory.specs.By.{directoryNeeds, KeptBy, SendsBy, ReadBy, ReadAnswersBy}
+use Rattle.directory.proofs.Passing.{Tests, not-own, by-refused, by-own, sent-tests, read-tests}
 
 module _ (b d : List ℕ) (Call : ℕ × ℕ × List ℕ → Type 0) where
   -- What the call without the directory leaves, and the directory of the block then.
@@ -56,17 +57,17 @@ module _ (b d : List ℕ) (Call : ℕ × ℕ × List ℕ → Type 0) where
         go (inr (s, inl p)) = inr (s, inl (p .0, with-directory 2 (λ z. omega arith) (p .1)))
         go (inr (s, inr (g, p))) = inr (s, inr (g, (p, kept-on (own g))))
 
--- ---- a message
+-- ---- a message, plain or wide
 
--- A message has the value 0.
-abbrev pub Valued : List ℕ → List ℕ → ℕ × ℕ × List ℕ → Type 0
-Valued b m o = (o .1 ≡ 0) × Message b m (o .0, o .2)
+-- It has the value 0.
+abbrev pub Valued : List ℕ → Sent → ℕ × ℕ × List ℕ → Type 0
+Valued b m o = (o .1 ≡ 0) × Sends b m (o .0, o .2)
 
-pub valued-tests : (b m : List ℕ) → Tests {O = ℕ × ℕ × List ℕ} b (λ n. (n, 0, b)) (Valued b m)
+pub valued-tests : (b : List ℕ) (m : Sent) → Tests {O = ℕ × ℕ × List ℕ} b (λ n. (n, 0, b)) (Valued b m)
 unfolding blockNeeds
-valued-tests b m o = ((λ p. there (p .0) (message-tests b m (o .0, o .2) .0 (p .1))), back)
+valued-tests b m o = ((λ p. there (p .0) (sent-tests b m (o .0, o .2) .0 (p .1))), back)
   where
-    there : o .1 ≡ 0 → First (λ n. (n, b)) (blockNeeds b) (Message b m) (o .0, o .2) → First (λ n. (n, 0, b)) (blockNeeds b) (Valued b m) o
+    there : o .1 ≡ 0 → First (λ n. (n, b)) (blockNeeds b) (Sends b m) (o .0, o .2) → First (λ n. (n, 0, b)) (blockNeeds b) (Valued b m) o
     there z (inl p) = inl (p .0, λ i. (p .1 i .0, z i, p .1 i .1))
     there z (inr (s, inl p)) = inr (s, inl (p .0, λ i. (p .1 i .0, z i, p .1 i .1)))
     there z (inr (s, inr (g, p))) = inr (s, inr (g, (z, p)))
@@ -75,25 +76,30 @@ valued-tests b m o = ((λ p. there (p .0) (message-tests b m (o .0, o .2) .0 (p 
     refused n e = (ap (λ (o : ℕ × ℕ × List ℕ). o .1) e, λ i. (e i .0, e i .2))
 
     back : First (λ n. (n, 0, b)) (blockNeeds b) (Valued b m) o → Valued b m o
-    back (inl p) = let r = refused 1 (p .1) in (r .0, message-tests b m (o .0, o .2) .1 (inl (p .0, r .1)))
-    back (inr (s, inl p)) = let r = refused 2 (p .1) in (r .0, message-tests b m (o .0, o .2) .1 (inr (s, inl (p .0, r .1))))
+    back (inl p) = let r = refused 1 (p .1) in (r .0, sent-tests b m (o .0, o .2) .1 (inl (p .0, r .1)))
+    back (inr (s, inl p)) = let r = refused 2 (p .1) in (r .0, sent-tests b m (o .0, o .2) .1 (inr (s, inl (p .0, r .1))))
     back (inr (s, inr (g, p))) = p
 
-module _ (b m : List ℕ) (n : ℕ) (b′ : List ℕ) (told : Message b m (n, b′)) where
-  pub message-same : (n ≡ 0 → ⊥) → b′ ≡ b
-  message-same some = ap (λ (o : ℕ × List ℕ). o .1) (message-unchanged b m (n, b′) told (omega (arith, some)) .1)
+module _ (b : List ℕ) (m : Sent) (n : ℕ) (b′ : List ℕ) (told : Sends b m (n, b′)) where
+  pub sent-same : (n ≡ 0 → ⊥) → b′ ≡ b
+  sent-same some = ap (λ (o : ℕ × List ℕ). o .1) (sent-unchanged b m (n, b′) told (omega (arith, some)) .1)
 
   -- An accepted message found a good block, and leaves one.
-  pub message-good : n ≡ 0 → Good b × Good b′
+  pub sent-good : n ≡ 0 → Good b × Good b′
   unfolding blockNeeds
-  message-good zero =
-      let all = first-passed (λ n. (n, b)) (Message b m) (n, b′) (λ o. o .0) (λ n. refl) (blockNeeds b) (omega arith) zero (message-tests b m (n, b′) .0 told) in
+  sent-good zero =
+      let all = first-passed (λ n. (n, b)) (Sends b m) (n, b′) (λ o. o .0) (λ n. refl) (blockNeeds b) (omega arith) zero (sent-tests b m (n, b′) .0 told) in
       (all .0 .1 .0, stays-good b m (n, b′) told (all .0 .1 .0) .0)
 
-  pub message-kept : (d d′ : List ℕ) → (Good b → Own b d) → (n ≡ 0 → Own b′ d′) → ((n ≡ 0 → ⊥) → d′ ≡ d) → MessageBy b d m (n, 0, b′, d′)
-  unfolding MessageBy
-  message-kept d d′ own then same =
-      kept-own b d (Valued b m) n 0 b′ d′ (λ some. (message-same some, same some)) then own (valued-tests b m (n, 0, b′) .0 (refl, told))
+  pub sent-kept : (d d′ : List ℕ) → (Good b → Own b d) → (n ≡ 0 → Own b′ d′) → ((n ≡ 0 → ⊥) → d′ ≡ d) → SendsBy b d m (n, 0, b′, d′)
+  unfolding SendsBy
+  sent-kept d d′ own then same =
+      kept-own b d (Valued b m) n 0 b′ d′ (λ some. (sent-same some, same some)) then own (valued-tests b m (n, 0, b′) .0 (refl, told))
+
+-- A directory that is not a good block's own is refused.
+pub sent-other : (b d : List ℕ) (m : Sent) (n : ℕ) → (Good b → Own b d → ⊥) → Answers (directoryNeeds b d) n → SendsBy b d m (n, 0, b, d)
+unfolding SendsBy
+sent-other b d m n other told = kept-refused b d (Valued b m) (not-own b d other told) told
 
 -- ---- a read
 

@@ -5,12 +5,13 @@ use mathlib.Core.Path.{_≡_, refl, ap}
 use mathlib.Core.List.{List}
 use mathlib.Core.Logic.{inl, inr}
 use native.Mathlib.Omega.{arith}
+use Rattle.index.specs.Wide.{Sent}
 use Rattle.index.specs.Calls.{blockNeeds, ReadsSet}
 use Rattle.index.proofs.laws.Firsts.{first-passed}
 use Rattle.directory.specs.Directory.{Own}
-use Rattle.directory.specs.By.{directoryNeeds, makingNeeds, MakesDirectory, By, KeptBy, MessageBy, ReadBy}
+use Rattle.directory.specs.By.{directoryNeeds, makingNeeds, MakesDirectory, By, KeptBy, SendsBy, ReadBy}
 use Rattle.directory.proofs.OneDirectory.{one-directory}
-use Rattle.directory.proofs.Keeping.{Left, Valued, message-same, read-same}
+use Rattle.directory.proofs.Keeping.{Left, Valued, sent-same, read-same}
 
 module _ (b d : List ℕ) (Call : ℕ × ℕ × List ℕ → Type 0) (o : ℕ × ℕ × List ℕ × List ℕ) where
   -- Accepted, the directory is that of the block then.
@@ -42,16 +43,16 @@ afresh {b} e d′ own made =
     (first-passed {O = ℕ × List ℕ} (λ n. (n, e)) (λ o. (o .0 ≡ 0) × Own b (o .1)) (0, d′) (λ o. o .0) (λ n. refl) (makingNeeds b e)
     (omega arith) refl made .1 .1)
 
--- ---- the two calls
+-- ---- the calls
 
 module _ (b d : List ℕ) (o : ℕ × ℕ × List ℕ × List ℕ) where
-  pub message-by-true : (m : List ℕ) → o .0 ≡ 0 → MessageBy b d m o → Own (o .2) (o .3)
-  unfolding MessageBy
-  message-by-true m = kept-true b d (Valued b m) o
+  pub sent-by-true : (m : Sent) → o .0 ≡ 0 → SendsBy b d m o → Own (o .2) (o .3)
+  unfolding SendsBy
+  sent-by-true m = kept-true b d (Valued b m) o
 
-  pub message-by-unchanged : (m : List ℕ) → (o .0 ≡ 0 → ⊥) → MessageBy b d m o → (o .2 ≡ b) × (o .3 ≡ d)
-  unfolding MessageBy
-  message-by-unchanged m some = kept-unchanged b d (Valued b m) o (λ p. message-same b m (o .0) (o .2) (p .1) some)
+  pub sent-by-unchanged : (m : Sent) → (o .0 ≡ 0 → ⊥) → SendsBy b d m o → (o .2 ≡ b) × (o .3 ≡ d)
+  unfolding SendsBy
+  sent-by-unchanged m some = kept-unchanged b d (Valued b m) o (λ p. sent-same b m (o .0) (o .2) (p .1) some)
 
   module _ (kind x : ℕ) (text : List ℕ) where
     pub read-by-true : o .0 ≡ 0 → ReadBy b d kind x text o → Own (o .2) (o .3)

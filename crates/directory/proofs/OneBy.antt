@@ -5,12 +5,13 @@ use mathlib.Core.List.{List}
 use Rattle.index.specs.declared.Wrote.{Wrote}
 use Rattle.index.specs.declared.Took.{Took}
 use Rattle.index.specs.Numbers.{Answers}
+use Rattle.index.specs.Wide.{Sent}
 use Rattle.index.specs.Calls.{WritesSet, ReadsSet}
 use Rattle.index.proofs.laws.OneFirst.{one-first}
-use Rattle.index.proofs.laws.message.OneMessage.{one-message}
+use Rattle.index.proofs.laws.message.OneMessage.{one-sent}
 use Rattle.index.proofs.laws.demands.OneCall.{one-write, one-read, wrote-once, took-once}
 use Rattle.directory.specs.Directory.{Own}
-use Rattle.directory.specs.By.{makingNeeds, MakesDirectory, directoryNeeds, By, KeptBy, MessageBy, ReadBy, WriteBy, WriteAnswersBy, ReadAnswersBy}
+use Rattle.directory.specs.By.{makingNeeds, MakesDirectory, directoryNeeds, By, KeptBy, SendsBy, ReadBy, WriteBy, WriteAnswersBy, ReadAnswersBy}
 use Rattle.directory.proofs.OneDirectory.{one-directory}
 use Rattle.directory.proofs.Keeping.{Left, Valued}
 
@@ -45,12 +46,12 @@ one-kept b d Call one =
 -- ---- the calls
 
 module _ (b d : List ℕ) where
-  pub one-message-by : (m : List ℕ) (o o′ : ℕ × ℕ × List ℕ × List ℕ) → MessageBy b d m o → MessageBy b d m o′ → o ≡ o′
-  unfolding MessageBy
-  one-message-by m =
+  pub one-sent-by : (m : Sent) (o o′ : ℕ × ℕ × List ℕ × List ℕ) → SendsBy b d m o → SendsBy b d m o′ → o ≡ o′
+  unfolding SendsBy
+  one-sent-by m =
       one-kept b d (Valued b m)
       (λ o o′ p q.
-      let e = one-message b m (o .0, o .2) (o′ .0, o′ .2) (p .1) (q .1) in
+      let e = one-sent b m (o .0, o .2) (o′ .0, o′ .2) (p .1) (q .1) in
       let v : o .1 ≡ o′ .1 = p .0 ∙ sym (q .0) in
       λ i. (e i .0, v i, e i .1))
 

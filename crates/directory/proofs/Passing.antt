@@ -10,8 +10,9 @@ use Rattle.index.specs.declared.Wrote.the-variants as wrote
 use Rattle.index.specs.Numbers.{First, Answers}
 use Rattle.index.specs.Block.{IsName, Sized, Good}
 use Rattle.index.specs.Message.{IsKind, kindOf}
+use Rattle.index.specs.Wide.{Sent}
 use Rattle.index.specs.Text.{textOf, setOf}
-use Rattle.index.specs.Calls.{blockNeeds, messageNeeds, Message, setNeeds, writeNeeds, Written, WritesSet, WriteAnswers, ReadsSet, WroteMeans}
+use Rattle.index.specs.Calls.{blockNeeds, sentNeeds, Sends, setNeeds, writeNeeds, Written, WritesSet, WriteAnswers, ReadsSet, WroteMeans}
 use Rattle.index.proofs.laws.Firsts.{first-map, first-all, refuses, passed}
 use Rattle.index.proofs.laws.OneFirst.{first-cases}
 use Rattle.directory.specs.Directory.{Own}
@@ -45,9 +46,9 @@ pub tests : {O : Type 0} (b : List ℕ) (refused : ℕ → O) (us : List (ℕ ×
     → Tests b refused (First refused (blockNeeds b ++ us) accepted)
 tests b refused us accepted o = (twice refused us accepted o (blockNeeds b), once refused us accepted o (blockNeeds b))
 
-pub message-tests : (b m : List ℕ) → Tests {O = ℕ × List ℕ} b (λ n. (n, b)) (Message b m)
-unfolding Message messageNeeds
-message-tests b m = tests b (λ n. (n, b)) _ _
+pub sent-tests : (b : List ℕ) (m : Sent) → Tests {O = ℕ × List ℕ} b (λ n. (n, b)) (Sends b m)
+unfolding Sends sentNeeds
+sent-tests b m = tests b (λ n. (n, b)) _ _
 
 module _ (b : List ℕ) (kind x : ℕ) (s : List ℕ) where
   pub read-tests : Tests {O = ℕ × ℕ × List ℕ} b (λ n. (n, 0, b)) (ReadsSet b kind x s)

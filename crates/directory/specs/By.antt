@@ -6,7 +6,9 @@ use lib.ListN.{length}
 use Rattle.index.specs.declared.Wrote.{Wrote}
 use Rattle.index.specs.declared.Took.{Took}
 use Rattle.index.specs.Numbers.{First}
-use Rattle.index.specs.Calls.{blockNeeds, Message, WritesSet, ReadsSet, WroteMeans, TookMeans}
+use Rattle.index.specs.Wide.{Sent}
+use Rattle.index.specs.Wide.Sent.{plain, wide}
+use Rattle.index.specs.Calls.{blockNeeds, Sends, WritesSet, ReadsSet, WroteMeans, TookMeans}
 use Rattle.directory.specs.Directory.{directoryLength, Own}
 
 -- make_directory: the number, and the directory then. 13, M-106: "making one: the length only".
@@ -31,9 +33,17 @@ By b d refused Call o = First refused (directoryNeeds b d) Call o
 unfoldable pub KeptBy : List ℕ → List ℕ → (ℕ × ℕ × List ℕ → Type 0) → (ℕ × ℕ × List ℕ × List ℕ) → Type 0
 KeptBy b d Call o = By b d (λ n. (n, 0, b, d)) (λ o. Call (o .0, o .1, o .2) × Own (o .2) (o .3)) o
 
--- message_by: a message has the value 0.
-unfoldable pub MessageBy : List ℕ → List ℕ → List ℕ → (ℕ × ℕ × List ℕ × List ℕ) → Type 0
-MessageBy b d m o = KeptBy b d (λ o. (o .1 ≡ 0) × Message b m (o .0, o .2)) o
+-- A message, plain or wide: it has the value 0.
+unfoldable pub SendsBy : List ℕ → List ℕ → Sent → (ℕ × ℕ × List ℕ × List ℕ) → Type 0
+SendsBy b d s o = KeptBy b d (λ o. (o .1 ≡ 0) × Sends b s (o .0, o .2)) o
+
+-- message_by
+abbrev pub MessageBy : List ℕ → List ℕ → List ℕ → (ℕ × ℕ × List ℕ × List ℕ) → Type 0
+MessageBy b d m o = SendsBy b d (plain m) o
+
+-- wide_by (M-100)
+abbrev pub WideBy : List ℕ → List ℕ → List ℕ → (ℕ × ℕ × List ℕ × List ℕ) → Type 0
+WideBy b d m o = SendsBy b d (wide m) o
 
 -- read_by: the value is how many records the set has, or with 9 the place of the text.
 unfoldable pub ReadBy : List ℕ → List ℕ → ℕ → ℕ → List ℕ → (ℕ × ℕ × List ℕ × List ℕ) → Type 0

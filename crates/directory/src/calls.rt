@@ -6,7 +6,7 @@ use crate::testing::own;
 use crate::testing::refused;
 use index::Took;
 use index::Wrote;
-ghost use Rattle.directory.specs.By.{MessageBy, ReadAnswersBy, WriteAnswersBy};
+ghost use Rattle.directory.specs.By.{MessageBy, WideBy, ReadAnswersBy, WriteAnswersBy};
 
 // A message, which keeps the directory true.
 pub fn message_by(block: &mut [u8], directory: &mut [u16], message: &[u8]) -> u8
@@ -16,6 +16,20 @@ pub fn message_by(block: &mut [u8], directory: &mut [u16], message: &[u8]) -> u8
         return refused(block);
     }
     let number = index::message(block, message);
+    if number == 0 {
+        fill(block, directory);
+    }
+    number
+}
+
+// A wide message, which keeps it true too.
+pub fn wide_by(block: &mut [u8], directory: &mut [u16], message: &[u8]) -> u8
+    ensures { λ r. ⌜ WideBy (now (block .entry)) (now (directory .entry)) (now (message .entry)) (r, 0, now (block .exit), now (directory .exit)) ⌝ }
+{
+    if !own(block, directory) {
+        return refused(block);
+    }
+    let number = index::wide(block, message);
     if number == 0 {
         fill(block, directory);
     }

@@ -7,6 +7,7 @@ mod testing;
 
 pub use crate::calls::message_by;
 pub use crate::calls::read_by;
+pub use crate::calls::wide_by;
 pub use crate::calls::write_by;
 pub use crate::doors::part_of;
 pub use crate::doors::record_by;

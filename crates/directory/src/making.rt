@@ -6,7 +6,7 @@ use crate::doors::part_at;
 use crate::doors::part_of;
 use crate::doors::place_of;
 use index::Kind;
-use index::WIDE;
+use index::PAIR;
 ghost use mathlib.Core.Path.{_≡_};
 ghost use Prim.Native.Nat.{_≤_};
 ghost use lib.ListN.{length};
@@ -35,7 +35,7 @@ fn fill_part(block: &[u8], directory: &mut [u16], kind: Kind)
     let part = part_of(block, kind);
     let mut x = 0;
     for i in part.from..part.end {
-        let next = index::pair_of(block, i) % WIDE + 1;
+        let next = index::pair_of(block, i) % PAIR + 1;
         if x < next {
             put(directory, at + x, at + next, place_of(i) as u16);
             x = next;

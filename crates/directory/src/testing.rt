@@ -6,7 +6,7 @@ use crate::doors::part_of;
 use crate::doors::place_of;
 use index::Kind;
 use index::NAMES;
-use index::WIDE;
+use index::PAIR;
 ghost use mathlib.Core.Path.{_≡_};
 ghost use mathlib.Core.List.{List};
 ghost use Prim.Native.Nat.{ℕ, _+_, _^_, _<_, _≤_};
@@ -43,7 +43,7 @@ fn stands(block: &[u8], directory: &[u16], at: usize, i: usize, end: usize) -> b
     ensures { λ r. ⌜ (Good (now (block .entry)) → end ≤ records (now (block .entry)) → Says (Stands (now (block .entry)) (now (directory .entry)) at i end) r) ⌝ }
 {
     for j in i..end {
-        let key = index::pair_of(block, j) % WIDE;
+        let key = index::pair_of(block, j) % PAIR;
         if key >= NAMES {
             return false;
         }

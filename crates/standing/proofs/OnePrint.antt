@@ -8,7 +8,7 @@ use Rattle.index.specs.Block.{greatestLength, Sized}
 use Rattle.index.specs.Calls.{Made, Makes, makeNeeds}
 use Rattle.index.proofs.laws.Firsts.{first-all}
 use Rattle.index.proofs.laws.demands.OneCall.{one-make}
-use Rattle.index.proofs.laws.message.OneMessage.{one-message}
+use Rattle.index.proofs.laws.message.OneMessage.{one-sent}
 use Rattle.standing.specs.Printed.{Fed, Prints}
 use Rattle.standing.specs.Printed.Fed.{done, piece}
 use Rattle.standing.proofs.StaysUsable.{is-made}
@@ -26,7 +26,7 @@ one-fed : {b d : List ℕ} {n : ℕ} {input lines b′ lines′ d′ : List ℕ}
     → (lines ≡ lines′) × (b′ ≡ d′)
 one-fed e done done = (refl, e)
 one-fed e (piece r p f) (piece s q g) =
-    let o = one-message _ _ _ _ (rw e at p) q in
+    let o = one-sent _ _ _ _ (rw e at p) q in
     let h = one-fed (ap (λ (o : ℕ × List ℕ). o .1) o) f g in
     (rw (ap (λ (o : ℕ × List ℕ). o .0) o, h .0), h .1)
 

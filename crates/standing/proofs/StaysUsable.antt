@@ -5,6 +5,7 @@ use mathlib.Core.Path.{_≡_}
 use mathlib.Core.List.{List}
 use lib.ListN.{length}
 use Rattle.index.specs.Block.{greatestLength, Sized}
+use Rattle.index.specs.Wide.Sent.{plain}
 use Rattle.index.specs.Calls.{Message, Made, Makes, makeNeeds}
 use Rattle.index.proofs.laws.Firsts.{first-sure}
 use Rattle.index.proofs.laws.message.StaysGood.{stays-good}
@@ -15,7 +16,7 @@ use Rattle.standing.specs.work.Room.{Usable}
 pub still-usable : (b m b′ : List ℕ) (r : ℕ) → Message b m (r, b′) → Usable b → Usable b′
 unfolding Sized
 still-usable b m b′ r h u =
-    let s = stays-good b m (r, b′) h (u .good) in
+    let s = stays-good b (plain m) (r, b′) h (u .good) in
     record { sized = omega (arith, u .sized, s .1); good = s .0 }
 
 pub fed-usable : {b : List ℕ} {n : ℕ} {input lines b′ : List ℕ} → Usable b → Fed b n input lines b′ → Usable b′
