@@ -10,13 +10,14 @@ use Rattle.index.specs.declared.Kind.the-variants.{Permission}
 use Rattle.index.specs.Letters.{letterCount, mayHave}
 use Rattle.index.specs.Numbers.{First}
 use Rattle.index.specs.Block.{number, countAt, count, key, id, Of, Sized, Good}
-use Rattle.index.specs.Calls.{blockNeeds, Message, WritesSet, ReadsSet, ReadAnswers}
+use Rattle.index.specs.Wide.{Sent}
+use Rattle.index.specs.Calls.{blockNeeds, Sends, WritesSet, ReadsSet, ReadAnswers}
 use Rattle.index.proofs.laws.block.GoodTest.{good-test}
 use Rattle.index.proofs.laws.Range.{lt-or-le}
 use Rattle.index.proofs.laws.block.Records.{of-records, count-at}
 use Rattle.index.proofs.laws.message.StaysGood.{stays-good}
 use Rattle.directory.specs.Directory.{directoryLength, BeginsAt, Own}
-use Rattle.directory.specs.By.{directoryNeeds, makingNeeds, MakesDirectory, By, KeptBy, MessageBy, ReadBy, WriteBy}
+use Rattle.directory.specs.By.{directoryNeeds, makingNeeds, MakesDirectory, By, KeptBy, SendsBy, ReadBy, WriteBy}
 use Rattle.directory.proofs.DirectoryOf.{has-own}
 use Rattle.directory.proofs.Passing.{Tests, read-tests, write-tests}
 use Rattle.directory.proofs.Keeping.{Valued, valued-tests, read-good, read-same}
@@ -62,10 +63,10 @@ module _ (b : List ℕ) (Call : ℕ × ℕ × List ℕ → Type 0) (tests : Test
 
 -- ---- the calls
 
-module _ (b m : List ℕ) (n : ℕ) (b′ : List ℕ) (told : Message b m (n, b′)) where
-  pub message-lent : (d : List ℕ) × (d′ : List ℕ) × MessageBy b d m (n, 0, b′, d′)
-  unfolding MessageBy
-  message-lent =
+module _ (b : List ℕ) (m : Sent) (n : ℕ) (b′ : List ℕ) (told : Sends b m (n, b′)) where
+  pub sent-lent : (d : List ℕ) × (d′ : List ℕ) × SendsBy b d m (n, 0, b′, d′)
+  unfolding SendsBy
+  sent-lent =
       let l = lent b (λ n. (n, 0, b)) (Valued b m) (valued-tests b m) (n, 0, b′) (refl, told) in
       let k = kept-lent b (Valued b m) (valued-tests b m) n 0 b′ (refl, told) (λ g. stays-good b m (n, b′) told g .0) l in
       (l .directory, k .0, k .1)

@@ -6,17 +6,18 @@ use mathlib.Core.List.{List, [], _∷_}
 use mathlib.Core.Logic.{inl, inr}
 use lib.ListN.{length}
 use Rattle.index.specs.Numbers.{Each}
-use Rattle.index.specs.Message.{kindOf, previous, new, changes, WellFormed}
-use Rattle.index.specs.Calls.{blockNeeds, messageNeeds, Message}
+use Rattle.index.specs.Message.{kindOf, changes}
+use Rattle.index.specs.Wide.{Sent, previousOf, newOf, FormedOf}
+use Rattle.index.specs.Calls.{blockNeeds, sentNeeds, Sends}
 use Rattle.index.specs.Text.{textOf, setOf}
-use Rattle.index.proofs.laws.message.MessageTest.{messageTest, message-test, lastOf}
+use Rattle.index.proofs.laws.message.MessageTest.{passTest, sentTest, sent-test, lastOf}
 use Rattle.tight.specs.Examples.{Case, Shows}
 use Rattle.tight.proofs.BlockTest.{blockTest, block-test}
 use Rattle.tight.proofs.RightsTest.{rightsTest, Tested, rights-test, everywhereTest, everywhere-test}
 use Rattle.tight.proofs.TextTest.{setTest, text-test, wrongTest, wrong-test, empty-text}
-use Rattle.tight.proofs.RefusedTest.{changeTest, refused-test}
+use Rattle.tight.proofs.RefusedTest.{stopTest, refused-test}
 
--- The test of a case. An accepted message goes through the blocks ds; a refused one is accepted by another block, b₀.
+-- The test of a case. A message goes through the blocks ds, to its end or until it is refused.
 abbrev pub Test : Case → Type 0
 Test (Case.rights b u o mask i j) = Tested b u mask o i j
 Test (Case.everywhere b u mask) = everywhereTest b u mask ≡ true
@@ -25,15 +26,14 @@ Test (Case.text b kind x t n) =
     (setTest b kind x ≡ true) × (textOf (setOf b (kindOf kind) x) ≡ t) × (length (setOf b (kindOf kind) x) ≡ n)
 Test (Case.wrong t place) = wrongTest t place ≡ true
 Test Case.empty = Unit {0}
-Test (Case.accepted b m b′) = (ds : List (List ℕ)) × (messageTest b m ds ≡ true) × (lastOf b ds ≡ b′)
+Test (Case.accepted b m b′) = (ds : List (List ℕ)) × (sentTest b m ds ≡ true) × (lastOf b ds ≡ b′)
 Test (Case.refused b m n) =
-    (b₀ : List ℕ) × (ds : List (List ℕ)) × (messageTest b₀ m ds ≡ true) × (blockTest b ≡ true)
-    × (changeTest (changes (previous m) (new m)) b n ≡ true)
-Test (Case.malformed b m) = (blockTest b ≡ true) × (WellFormed m → ⊥)
+    (ds : List (List ℕ)) × (passTest b m ≡ true) × (stopTest (changes (previousOf m) (newOf m)) b ds n ≡ true)
+Test (Case.malformed b m) = (blockTest b ≡ true) × (FormedOf m → ⊥)
 
--- A message that is not well formed, to a good block.
-malformed : (b m : List ℕ) → blockTest b ≡ true → (WellFormed m → ⊥) → Message b m (3, b)
-unfolding Message messageNeeds blockNeeds
+-- A message that has not its form, to a good block.
+malformed : (b : List ℕ) (m : Sent) → blockTest b ≡ true → (FormedOf m → ⊥) → Sends b m (3, b)
+unfolding Sends sentNeeds blockNeeds
 malformed b m e wrong = let t = block-test b e in inr (t .0, inr (t .1, inl (wrong, refl)))
 
 -- Each test means what its case says.
@@ -44,9 +44,8 @@ means (Case.holds b u o mask) e = (_, _, rights-test b u mask o _ _ (e, refl, re
 means (Case.text b kind x t n) e = text-test b kind x t n (e .0) (e .1) (e .2)
 means (Case.wrong t place) e = wrong-test t place e
 means Case.empty e = empty-text
-means (Case.accepted b m b′) e = subst (λ (d : List ℕ). Message b m (0, d)) (e .2) (message-test b m (e .0) (e .1))
-means (Case.refused b m n) e =
-    refused-test (e .0) (lastOf (e .0) (e .1)) b m n (message-test (e .0) m (e .1) (e .2)) (e .3) (e .4)
+means (Case.accepted b m b′) e = subst (λ (d : List ℕ). Sends b m (0, d)) (e .2) (sent-test b m (e .0) (e .1))
+means (Case.refused b m n) e = refused-test b m (e .0) n (e .1) (e .2)
 means (Case.malformed b m) e = malformed b m (e .0) (e .1)
 
 pub all-mean : (cs : List Case) → Each Test cs → Each Shows cs

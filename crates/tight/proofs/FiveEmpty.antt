@@ -1,5 +1,5 @@
--- 01, "Five empty programs have to be turned away": no program that meets the promises is one of them.
-use Prim.Native.Nat.{ℕ, _+_, _≤_}
+-- 01, "Five empty programs have to be turned away", and those of M-100 and M-106: no program that meets the promises is one of them.
+use Prim.Native.Nat.{ℕ, _+_, _<_, _≤_}
 use mathlib.Core.Path.{_≡_, refl, sym, ap, subst, _∙_}
 use mathlib.Core.List.{List, [], _∷_}
 use native.Mathlib.Omega.{arith}
@@ -9,24 +9,26 @@ use Rattle.index.specs.declared.Kind.the-variants.{Membership, Permission}
 use Rattle.index.specs.Letters.{mayHave}
 use Rattle.index.specs.Block.{number, Sized, Good, countAt, count}
 use Rattle.index.specs.Message.{IsKind, kindOf, kindNumber, kindIn, flags, present, markers, maskWith, halfAt, halves, moves}
-use Rattle.index.specs.Calls.{blockNeeds, Makes, ReadsSet}
+use Rattle.index.specs.Wide.{Sent}
+use Rattle.index.specs.Wide.Sent.{plain, wide}
+use Rattle.index.specs.Calls.{blockNeeds, Makes, Sends, ReadsSet}
 use Rattle.index.specs.History.{left, others, after, movesOf, tally}
 use Rattle.index.proofs.laws.Firsts.{first-passed, first-sure}
 use Rattle.index.proofs.laws.block.GoodTest.{good-test}
 use Rattle.directory.specs.Directory.{directoryLength, partStart, BeginsAt, Own}
-use Rattle.directory.specs.By.{directoryNeeds, makingNeeds, MakesDirectory, By, KeptBy, MessageBy, ReadBy, WriteBy}
+use Rattle.directory.specs.By.{directoryNeeds, makingNeeds, MakesDirectory, By, KeptBy, SendsBy, ReadBy, WriteBy}
 use Rattle.directory.proofs.DirectoryOf.{has-own}
 use Rattle.directory.proofs.Keeping.{Left, Valued}
-use Rattle.directory.proofs.KeptTrue.{message-by-true}
+use Rattle.directory.proofs.KeptTrue.{sent-by-true}
 use Rattle.rights.specs.Questions.{unreported, FullBy, ShortBy}
-use Rattle.tight.specs.Blocks.{zeros, nothing, reads, give}
-use Rattle.tight.specs.Examples.{ring, twoRecords, twoText}
-use Rattle.tight.specs.Programs.{Program, Meets, RefusesEverything, AnswersTheSame, ChangesNothing, LeavesBehind, TakesAny, OnlyTheFirst, Handed, MakesUpCounts}
+use Rattle.tight.specs.Blocks.{zeros, absent, several, nothing, reads, give}
+use Rattle.tight.specs.Examples.{ring, twoRecords, twoText, lot, giveFour, readers}
+use Rattle.tight.specs.Programs.{Program, Meets, RefusesEverything, AnswersTheSame, ChangesNothing, LeavesBehind, TakesAny, OnceForAll, LeavesHalfDone, OnlyTheFirst, Handed, MakesUpCounts}
 use Rattle.tight.proofs.Programs as does
-use Rattle.tight.proofs.ByDirectory.{message-lent, left-good, read-lent, write-lent, full-lent, short-lent, questions-lent, not-lent, made-directory, not-made, fine-nothing, fine-one, two-owns, owned-nine}
+use Rattle.tight.proofs.ByDirectory.{sent-lent, left-good, read-lent, write-lent, full-lent, short-lent, questions-lent, not-lent, made-directory, not-made, fine-nothing, fine-one, two-owns, owned-nine}
 use Rattle.tight.proofs.Demand3.{second-half}
 use Rattle.tight.proofs.Mill.{by, made, first-given, second-given, held-by-one, held-by-none, yes-to-one, no-to-all, count-of-one}
-use Rattle.tight.proofs.Starred.{texts-right, examined-right}
+use Rattle.tight.proofs.Starred.{texts-right, examined-right, wides-right}
 use Rattle.tight.proofs.TextTest.{emptied}
 
 -- ---- M-106: the examples, by a directory
@@ -49,13 +51,25 @@ not-blank d own same =
     let (i, low, e) = own .each Membership 0 (omega arith) in
     omega (arith, rw same at e, getD-replicate {A = ℕ} directoryLength (0 + 0) 0 0 (omega arith))
 
-given-by : (d : List ℕ) × (d′ : List ℕ) × MessageBy nothing d give (0, 0, reads 1, d′)
-given-by = message-lent nothing give 0 (reads 1) first-given
+-- A message that gives R on 9 to 1, be it plain or wide.
+module _ (m : Sent) (told : Sends nothing m (0, reads 1)) where
+  given-by : (d : List ℕ) × (d′ : List ℕ) × SendsBy nothing d m (0, 0, reads 1, d′)
+  given-by = sent-lent nothing m 0 (reads 1) told
 
-given-own : Own nothing (given-by .0)
-unfolding MessageBy KeptBy By directoryNeeds blockNeeds
-given-own =
-    first-passed {O = ℕ × ℕ × List ℕ × List ℕ} (λ n. (n, 0, nothing, given-by .0)) (Left nothing (given-by .0) (Valued nothing give)) (0, 0, reads 1, given-by .1) (λ o. o .0) (λ n. refl) (directoryNeeds nothing (given-by .0)) (omega arith) refl (given-by .2) .0 .1 .1 .0
+  given-own : Own nothing (given-by .0)
+  unfolding SendsBy KeptBy By directoryNeeds blockNeeds
+  given-own =
+      first-passed {O = ℕ × ℕ × List ℕ × List ℕ} (λ n. (n, 0, nothing, given-by .0)) (Left nothing (given-by .0) (Valued nothing m)) (0, 0, reads 1, given-by .1) (λ o. o .0) (λ n. refl) (directoryNeeds nothing (given-by .0)) (omega arith) refl (given-by .2) .0 .1 .1 .0
+
+-- A byte of the header tells the two blocks apart.
+other-block : reads 1 ≡ nothing → ⊥
+other-block same = omega (arith, ap (λ (b : List ℕ). getD b 2 0) same)
+
+abbrev pair : List ℕ
+pair = several 2 2 absent (lot (9 ∷ []) (1 ∷ []))
+
+pair-given : Sends nothing (wide pair) (0, reads 1)
+pair-given = wides-right .1 .1 .1 .1 .1 .1 .1 .0
 
 written-by : (d : List ℕ) × WriteBy twoRecords d 2 7 (zeros 13) (0, 13, twoText)
 written-by = write-lent twoRecords 2 7 (zeros 13) 0 13 twoText (texts-right .0 .0 (zeros 13) (omega arith))
@@ -87,10 +101,40 @@ read-owned b d fine own kind x text o told =
     (fine .0, (fine .1, (own, tt))) told
 
 module _ (p : Program) (meets : Meets p) where
+  -- ---- such a message is accepted, and changes the block and its directory; one by an empty directory is refused
+
+  module _ (m : Sent) (told : Sends nothing m (0, reads 1)) where
+    abbrev its-own : List ℕ
+    its-own = given-by m told .0
+
+    accepted : 0 < p .sends nothing m .0 → ⊥
+    accepted r = omega (arith, rw (does.does p meets told) at r)
+
+    accepted-by : 0 < p .sends-by nothing its-own m .0 → ⊥
+    accepted-by r = omega (arith, rw (does.does-by p meets (given-by m told .2)) at r)
+
+    changed : p .sends nothing m .1 ≡ nothing → ⊥
+    changed same = other-block (rw (does.does p meets told) at same)
+
+    changed-by : p .sends-by nothing its-own m .2 ≡ nothing → ⊥
+    changed-by same = other-block (rw (does.does-by p meets (given-by m told .2)) at same)
+
+    followed : p .sends-by nothing its-own m .3 ≡ its-own → ⊥
+    followed keeps =
+        let same : given-by m told .1 ≡ its-own = rw (does.does-by p meets (given-by m told .2)) at keeps in
+        two-owns its-own (given-own m told)
+        (rw same at (sent-by-true nothing its-own (0, 0, reads 1, given-by m told .1) m refl (given-by m told .2)))
+
+  refused-any : (m : Sent) → p .sends-by nothing [] m .0 ≡ 13
+  unfolding SendsBy KeptBy
+  refused-any m =
+      ap (λ (o : ℕ × ℕ × List ℕ × List ℕ). o .0) (does.does-by p meets (not-lent nothing fine-nothing (λ n. (n, 0, nothing, [])) _))
+
   -- "One that refuses everything": each call accepts something.
   pub not-refusing : RefusesEverything p → ⊥
   not-refusing (RefusesEverything.makes r) = omega (arith, rw (does.makes p meets (made nothing refl)) at (r nothing))
-  not-refusing (RefusesEverything.messages r) = omega (arith, rw (does.does p meets first-given) at (r nothing give))
+  not-refusing (RefusesEverything.messages r) = accepted (plain give) first-given (r nothing give)
+  not-refusing (RefusesEverything.wides r) = accepted (wide pair) pair-given (r nothing pair)
   not-refusing (RefusesEverything.writes r) =
       omega (arith, rw (does.writes p meets (texts-right .0 .0 (zeros 13) (omega arith))) at (r twoRecords 2 7 (zeros 13)))
   not-refusing (RefusesEverything.reads r) = omega (arith, rw (does.reads p meets (texts-right .0 .1)) at (r twoRecords 2 7 twoText))
@@ -98,8 +142,8 @@ module _ (p : Program) (meets : Meets p) where
   not-refusing (RefusesEverything.short r) = omega (arith, rw (does.says p meets yes-to-one) at (r (reads 1) 1 9 2))
   not-refusing (RefusesEverything.directories r) =
       omega (arith, rw (does.makes-directory p meets (directory-made .1)) at (r nothing blank-directory))
-  not-refusing (RefusesEverything.messages-by r) =
-      omega (arith, rw (does.does-by p meets (given-by .2)) at (r nothing (given-by .0) give))
+  not-refusing (RefusesEverything.messages-by r) = accepted-by (plain give) first-given (r nothing _ give)
+  not-refusing (RefusesEverything.wides-by r) = accepted-by (wide pair) pair-given (r nothing _ pair)
   not-refusing (RefusesEverything.writes-by r) =
       omega (arith, rw (does.writes-by p meets (written-by .1)) at (r twoRecords (written-by .0) 2 7 (zeros 13)))
   not-refusing (RefusesEverything.reads-by r) =
@@ -153,9 +197,8 @@ module _ (p : Program) (meets : Meets p) where
       let blank = zeros (length nothing) in
       let same : nothing ≡ blank = rw (does.makes p meets (made blank refl)) at (keeps blank) in
       omega (arith, ap (λ (b : List ℕ). getD b 8 0) same)
-  not-idle (ChangesNothing.messages keeps) =
-      let same : reads 1 ≡ nothing = rw (does.does p meets first-given) at (keeps nothing give) in
-      omega (arith, ap (λ (b : List ℕ). getD b 2 0) same)
+  not-idle (ChangesNothing.messages keeps) = changed (plain give) first-given (keeps nothing give)
+  not-idle (ChangesNothing.wides keeps) = changed (wide pair) pair-given (keeps nothing pair)
   not-idle (ChangesNothing.writes keeps) =
       let same = rw (does.writes p meets (texts-right .0 .0 (zeros 13) (omega arith))) at (keeps twoRecords 2 7 (zeros 13)) in
       omega (arith, ap (λ (b : List ℕ). getD b 0 0) same)
@@ -167,9 +210,8 @@ module _ (p : Program) (meets : Meets p) where
       let same : directory-made .0 ≡ blank-directory =
       rw (does.makes-directory p meets (directory-made .1)) at (keeps nothing blank-directory) in
       not-blank (directory-made .0) (made-own blank-directory (directory-made .0) (directory-made .1)) same
-  not-idle (ChangesNothing.messages-by keeps) =
-      let same : reads 1 ≡ nothing = rw (does.does-by p meets (given-by .2)) at (keeps nothing (given-by .0) give) in
-      omega (arith, ap (λ (b : List ℕ). getD b 2 0) same)
+  not-idle (ChangesNothing.messages-by keeps) = changed-by (plain give) first-given (keeps nothing _ give)
+  not-idle (ChangesNothing.wides-by keeps) = changed-by (wide pair) pair-given (keeps nothing _ pair)
   not-idle (ChangesNothing.writes-by keeps) =
       let same = rw (does.writes-by p meets (written-by .1)) at (keeps twoRecords (written-by .0) 2 7 (zeros 13)) in
       omega (arith, ap (λ (b : List ℕ). getD b 0 0) same)
@@ -183,9 +225,8 @@ module _ (p : Program) (meets : Meets p) where
   -- M-106: the directory of the block of 40 bytes is another than that of the block with a record in it.
   pub not-behind : LeavesBehind p → ⊥
   unfolding IsKind kindOf
-  not-behind (LeavesBehind.messages keeps) =
-      let same : given-by .1 ≡ given-by .0 = rw (does.does-by p meets (given-by .2)) at (keeps nothing (given-by .0) give) in
-      two-owns (given-by .0) given-own (rw same at (message-by-true nothing (given-by .0) (0, 0, reads 1, given-by .1) give refl (given-by .2)))
+  not-behind (LeavesBehind.messages keeps) = followed (plain give) first-given (keeps nothing _ give)
+  not-behind (LeavesBehind.wides keeps) = followed (wide pair) pair-given (keeps nothing _ pair)
   not-behind (LeavesBehind.reads keeps) =
       let d = has-own (fine-one .1) in
       let o = p .read-by (reads 1) (d .0) 2 9 [] in
@@ -200,11 +241,11 @@ module _ (p : Program) (meets : Meets p) where
 
   -- M-106: a directory of no numbers is no block's own.
   pub not-any : TakesAny p → ⊥
-  unfolding MessageBy ReadBy WriteBy KeptBy FullBy ShortBy
+  unfolding ReadBy WriteBy KeptBy FullBy ShortBy
   not-any (TakesAny.directories never) =
       never nothing [] (ap (λ (o : ℕ × List ℕ). o .0) (does.makes-directory p meets (not-made nothing fine-nothing)))
-  not-any (TakesAny.messages never) =
-      never nothing [] give (ap (λ (o : ℕ × ℕ × List ℕ × List ℕ). o .0) (does.does-by p meets (not-lent nothing fine-nothing (λ n. (n, 0, nothing, [])) _)))
+  not-any (TakesAny.messages never) = never nothing [] give (refused-any (plain give))
+  not-any (TakesAny.wides never) = never nothing [] pair (refused-any (wide pair))
   not-any (TakesAny.writes never) =
       never nothing [] 2 9 [] (ap (λ (o : ℕ × ℕ × List ℕ). o .0) (does.writes-by p meets (not-lent nothing fine-nothing (λ n. (n, 0, [])) _)))
   not-any (TakesAny.reads never) =
@@ -214,11 +255,20 @@ module _ (p : Program) (meets : Meets p) where
   not-any (TakesAny.short never) =
       never nothing [] 1 9 15 (ap (λ (o : ℕ × ℕ). o .0) (does.says-by p meets (not-lent nothing fine-nothing (λ n. (n, 0)) _)))
 
+  -- M-100: giveFour leaves four records in a block that had none.
+  pub not-once-for-all : OnceForAll p → ⊥
+  unfolding number
+  not-once-for-all few = omega (arith, rw (does.does p meets (wides-right .0)) at (few (readers [] 4) giveFour refl))
+
+  -- "no lent byte changes"
+  pub not-half-done : LeavesHalfDone p → ⊥
+  not-half-done h = h .changed (does.keeps p meets (h .block) (h .message) (h .refused))
+
   pub not-only-first : OnlyTheFirst p → ⊥
   unfolding number
   not-only-first accepts =
       let same : _≡_ {A = ℕ × List ℕ} (0, reads 2) (0, reads 1) =
-      sym (does.does p meets second-given) ∙ accepts (reads 1) give (omega arith) in
+      sym (does.does p meets second-given) ∙ accepts (reads 1) (plain give) (omega arith) in
       omega (arith, ap (λ (o : ℕ × List ℕ). getD (o .1) 22 0) same)
 
   -- "One that stores made-up counts, say 1 for any: demand 3's second half."
@@ -231,17 +281,17 @@ module _ (p : Program) (meets : Meets p) where
       (u .kind) (u .key) (u .id) (u .letter) (u .is-letter))
 
 -- The mill's own fault is of that kind: a program that takes two appointments in and keeps at most 1 for any.
-pub one-for-any : (p : Program) → p .make nothing .0 ≡ 0 → ((b : List ℕ) → p .message b give .0 ≡ 0)
-    → ((b m : List ℕ) (kind : Kind) (x y k : ℕ) → count (p .message b m .1) kind x y k ≤ 1) → MakesUpCounts p
+pub one-for-any : (p : Program) → p .make nothing .0 ≡ 0 → ((b : List ℕ) → p .sends b (plain give) .0 ≡ 0)
+    → ((b m : List ℕ) (kind : Kind) (x y k : ℕ) → count (p .sends b (plain m) .1) kind x y k ≤ 1) → MakesUpCounts p
 unfolding kindIn flags present markers maskWith halfAt halves kindOf kindNumber number left others after moves movesOf tally
 one-for-any p m a few =
     let b = p .make nothing .1 in
-    let c = p .message b give .1 in
+    let c = p .sends b (plain give) .1 in
     record {
       lent = nothing;
       made = m;
       messages = by 1 give ∷ by 2 give ∷ [];
-      block = p .message c give .1;
+      block = p .sends c (plain give) .1;
       statements = after (by 2 give) (after (by 1 give) []);
       handed = Handed.accepted (a b) refl (Handed.accepted (a c) refl Handed.nothing);
       kind = Permission;

@@ -3,6 +3,7 @@ pub mod FiveEmpty
 pub mod Marked
 pub mod Demand3
 pub mod Mill
+pub mod Mixed
 pub mod Starred
 pub mod NotVacuous
 pub mod FourTimes

@@ -6,10 +6,10 @@ use mathlib.Core.List.{List, [], _∷_}
 use native.Mathlib.Omega.{arith}
 use borrow.Author.Tests.{eqb-true}
 use lib.Dec.{eqb}
-use Rattle.index.specs.declared.Kind.{Kind}
 use Rattle.index.specs.declared.Kind.the-variants.{Membership, Permission, Filter}
 use Rattle.index.specs.Letters.{markerX, mayHave}
 use Rattle.index.specs.Block.{number, countAt, countFrom, count}
+use Rattle.index.specs.Wide.Sent.{plain}
 use Rattle.index.proofs.laws.Firsts.{first-all}
 use Rattle.index.proofs.laws.Tests.{all, all-at}
 use Rattle.index.proofs.laws.block.Masks.{in-zero, in-all}
@@ -78,5 +78,5 @@ module _ (p : Program) (meets : Meets p) where
   pub takes-markers : KeepsMarkers p → ⊥
   unfolding number countAt countFrom count
   takes-markers keeps =
-      let e = rw (does p meets x-given) at (keeps nothing giveX 1 10 markerX (omega arith) (omega arith)) in
+      let e = rw (does p meets x-given) at (keeps nothing (plain giveX) 1 10 markerX (omega arith) (omega arith)) in
       omega (arith, e)

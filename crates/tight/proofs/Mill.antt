@@ -9,9 +9,10 @@ use Rattle.index.specs.declared.Kind.the-variants.{Membership, Permission}
 use Rattle.index.specs.Letters.{markerX, markerN, In, mayHave}
 use Rattle.index.specs.Block.{number, Sized, countAt, count}
 use Rattle.index.specs.Message.{kindOf, kindNumber, kindIn, flags, present, markers, maskWith, halfAt, halves, previous, Half, moves}
+use Rattle.index.specs.Wide.{Sent}
+use Rattle.index.specs.Wide.Sent.{plain}
 use Rattle.index.specs.Calls.{blockNeeds, Makes, makeNeeds, Message}
-use Rattle.index.specs.History.{Sent, Accepted, Labelled, Statement, left, others, after, History, movesOf, tally}
-use Rattle.index.specs.History.Sent.{plain}
+use Rattle.index.specs.History.{Accepted, Labelled, Statement, left, others, after, History, movesOf, tally}
 use Rattle.index.specs.History.Accepted.{next}
 use Rattle.index.specs.History.History.{accepted}
 use Rattle.index.proofs.laws.Firsts.{All, first-all}
@@ -50,7 +51,7 @@ one-withdrawn = appointments-right .1 .1 .0
 pub held-by-one : Full (reads 1) 1 9 15 (0, 2, 0, 0)
 held-by-one = appointments-right .1 .1 .1 .0
 
-pub both-withdrawn : Message (reads 1) withdraw (0, nothing)
+both-withdrawn : Message (reads 1) withdraw (0, nothing)
 both-withdrawn = appointments-right .1 .1 .1 .1 .0
 
 pub held-by-none : Full nothing 1 9 15 (0, 0, 0, 0)
@@ -91,8 +92,9 @@ no-to-all =
     (refl, omega arith, ((λ e. absurd (omega arith)), (λ h. absurd (no h))))
 
 -- Whatever program meets the promises answers so.
-pub still-answered : (p : Program) → Meets p → p .rights (run p nothing (give ∷ give ∷ withdraw ∷ [])) 1 9 15 ≡ (0, 2, 0, 0)
-still-answered p meets = rw (runs p meets (give ∷ give ∷ withdraw ∷ []) one-ended) (answers p meets held-by-one)
+pub still-answered : (p : Program) → Meets p
+    → p .rights (run p nothing (plain give ∷ plain give ∷ plain withdraw ∷ [])) 1 9 15 ≡ (0, 2, 0, 0)
+still-answered p meets = rw (runs p meets (plain give ∷ plain give ∷ plain withdraw ∷ []) one-ended) (answers p meets held-by-one)
 
 -- In every order in which the four messages are accepted, the block is empty again.
 pub both-gone : (ms : List Sent) (b : List ℕ) → List·Permᴰ ms (plain give ∷ plain give ∷ plain withdraw ∷ plain withdraw ∷ []) → Accepted nothing ms b

@@ -1,4 +1,4 @@
--- Each number that 01 or M-106 gives to a call is given for some input.
+-- Each number that 01, M-100 or M-106 gives to a call is given for some input.
 use Prim.Native.Nat.{ℕ, _-_, _<_}
 use mathlib.Core.Path.{_≡_, refl}
 use mathlib.Core.List.{List, [], _∷_, _++_}
@@ -9,30 +9,35 @@ use Rattle.index.specs.declared.Kind.the-variants.{Permission}
 use Rattle.index.specs.Letters.{letterCount, letters, mayHave}
 use Rattle.index.specs.Numbers.{Answers, Each}
 use Rattle.index.specs.Block.{number, countAt, countFrom, count, room, Sized, nameCount, Good}
-use Rattle.index.specs.Message.{IsKind, kindOf, kindIn, flags, present, markers, maskWith, halfAt, halves, previous, new, changes, ownCount, Marked, WellFormed, Named, Masked, Carried, PackedWell, packed, packedKind, packedHalf, packedChange, packedChanges}
+use Rattle.index.specs.Message.{IsKind, kindOf, kindIn, flags, present, markers, maskWith, halfAt, halves, previous, new, changes, ownCount, Marked, Half, Named, Masked, Carried, PackedWell, packed, packedKind, packedHalf, packedChange, packedChanges}
+use Rattle.index.specs.Wide.{listLength, maskIn, listOffset, namesFrom, names, listPlace, pairs, wideHalves, Sent, previousOf, newOf, FormedOf}
+use Rattle.index.specs.Wide.Sent.{plain, wide}
 use Rattle.index.specs.Text.{Writes, digitsOf, decimal, pieceOf, piecesOf, entryText, textOf, countsFrom, countsAt, setFrom, setOf}
 use Rattle.index.specs.work.Reading.{digit, reaches, readDigits, readNumber, readCount, readLetter, readCounts, readMark, readRecord, readMore, readRecords, parse}
-use Rattle.index.specs.Calls.{blockNeeds, makeNeeds, messageNeeds, setNeeds, writeNeeds, Makes, Message, WritesSet, ReadsSet, listNeeds, CarriesOut}
+use Rattle.index.specs.Calls.{blockNeeds, makeNeeds, sentNeeds, setNeeds, writeNeeds, Makes, Sends, Message, WritesSet, ReadsSet, listNeeds, CarriesOut}
 use Rattle.index.proofs.laws.Firsts.{All, first-all, passed-first, refuses, answers-first, first-passed}
 use Rattle.index.proofs.laws.text.SetReader.{parse-sound}
 use Rattle.index.proofs.laws.block.GoodTest.{good-test}
 use Rattle.directory.specs.Directory.{directoryLength}
-use Rattle.directory.specs.By.{makingNeeds, MakesDirectory, KeptBy, MessageBy, ReadBy, WriteBy}
+use Rattle.directory.specs.By.{makingNeeds, MakesDirectory, KeptBy, SendsBy, ReadBy, WriteBy}
 use Rattle.rights.specs.Questions.{questionNeeds, unreported, Full, Short, FullBy, ShortBy}
-use Rattle.tight.specs.Blocks.{zeros, halfBytes, giving, moving, nothing, reads, give, withdraw}
-use Rattle.tight.specs.Examples.{twoRecords}
-use Rattle.tight.specs.EachNumber.{MakeGives, MessageGives, WriteGives, ReadGives, QuestionsGive, makeNumbers, messageNumbers, writeNumbers, readNumbers, questionNumbers, ListGives, DirectoryGives, MessageByGives, WriteByGives, ReadByGives, QuestionsByGive, directoryNumbers, byDirectory}
-use Rattle.tight.proofs.Starred.{_and_, texts-right, limits-right}
-use Rattle.tight.proofs.RefusedTest.{refused-test, changeTest, change-test}
-use Rattle.tight.proofs.Mill.{made, first-given, both-withdrawn, held-by-one, no-to-all}
+use Rattle.tight.specs.Blocks.{zeros, giving, absent, several, nothing, reads, give, withdraw}
+use Rattle.tight.specs.Examples.{twoRecords, giveFour, withdrawFour}
+use Rattle.tight.specs.EachNumber.{MakeGives, SentGives, WriteGives, ReadGives, QuestionsGive, makeNumbers, messageNumbers, writeNumbers, readNumbers, questionNumbers, ListGives, DirectoryGives, SentByGives, WriteByGives, ReadByGives, QuestionsByGive, directoryNumbers, byDirectory}
+use Rattle.tight.proofs.Starred.{_and_, texts-right, limits-right, wides-right}
+use Rattle.tight.proofs.RefusedTest.{refused-test, stopTest, stop-test}
+use Rattle.tight.proofs.Mill.{made, first-given, held-by-one, no-to-all}
 use mathlib.Core.Bool.{Bool, true, false}
-use Rattle.index.proofs.laws.message.Halves.{each-half, differ}
 use Rattle.index.proofs.laws.message.ListTests.{ownNeeds}
-use Rattle.index.proofs.laws.message.MessageTest.{mask-test}
+use Rattle.index.proofs.laws.message.MessageTest.{form-test, mask-test}
 use Rattle.tight.proofs.BlockTest.{blockTest, block-test}
-use Rattle.tight.proofs.ByDirectory.{message-lent, read-lent, write-lent, questions-lent, not-lent, made-directory, not-made, fine-nothing}
+use Rattle.tight.proofs.ByDirectory.{sent-lent, read-lent, write-lent, questions-lent, not-lent, made-directory, not-made, fine-nothing}
 
 -- ---- a requirement that does not hold gives its number
+
+-- Every call but make gives it, whatever the form of a message.
+abbrev AllGive : ℕ → Type 0
+AllGive r = ((form : List ℕ → Sent) → SentGives form r) × (WriteGives r × ReadGives r) × QuestionsGive r × ListGives r
 
 module _ (b : List ℕ) (r : ℕ) (above : 0 < r) where
   not-zero : r ≡ 0 → ⊥
@@ -41,9 +46,9 @@ module _ (b : List ℕ) (r : ℕ) (above : 0 < r) where
   first : (ts us : List (ℕ × Type 0)) → Answers ts r → Answers (ts ++ us) r
   first ts us a = answers-first ts us not-zero a
 
-  message-gives : (m : List ℕ) → Answers (messageNeeds b m) r → MessageGives r
-  unfolding Message
-  message-gives m a = (b, m, b, refuses _ _ (messageNeeds b m) not-zero a)
+  sent-gives : (form : List ℕ → Sent) (m : List ℕ) → Answers (sentNeeds b (form m)) r → SentGives form r
+  unfolding Sends
+  sent-gives form m a = (b, m, b, refuses _ _ (sentNeeds b (form m)) not-zero a)
 
   list-gives : (cs : List ℕ) → Answers (listNeeds b cs) r → ListGives r
   unfolding CarriesOut
@@ -62,20 +67,19 @@ module _ (b : List ℕ) (r : ℕ) (above : 0 < r) where
       let ts = questionNeeds b u o request in
       (b, u, o, request, (0, 0, 0), 0, refuses _ _ ts not-zero a, refuses _ _ ts not-zero a)
 
-  -- Every call but make.
-  calls-give : Answers (blockNeeds b) r → MessageGives r × (WriteGives r × ReadGives r) × QuestionsGive r × ListGives r
-  unfolding messageNeeds setNeeds questionNeeds listNeeds
+  calls-give : Answers (blockNeeds b) r → AllGive r
+  unfolding sentNeeds setNeeds questionNeeds listNeeds
   calls-give a =
       let bs = blockNeeds b in
-      (message-gives [] (first bs _ a), sets-give 1 0 (first bs _ a), questions-give 0 0 1 (first bs _ a), list-gives [] (first bs _ a))
+      ((λ form. sent-gives form [] (first bs _ a)), sets-give 1 0 (first bs _ a), questions-give 0 0 1 (first bs _ a), list-gives [] (first bs _ a))
 
 -- ---- the block: one of no bytes, and one whose header is all zero
 
-no-bytes : MessageGives 1 × (WriteGives 1 × ReadGives 1) × QuestionsGive 1 × ListGives 1
+no-bytes : AllGive 1
 unfolding blockNeeds Sized
 no-bytes = calls-give [] 1 (omega arith) (inl ((λ s. omega (arith, s .0)), refl))
 
-no-header : MessageGives 2 × (WriteGives 2 × ReadGives 2) × QuestionsGive 2 × ListGives 2
+no-header : AllGive 2
 unfolding blockNeeds Sized number
 no-header =
     calls-give (zeros 16) 2 (omega arith) (inr ((omega arith, omega arith), inl ((λ g. omega (arith, g .m-offset)), refl)))
@@ -108,46 +112,49 @@ no-request =
     questions-give nothing 5 (omega arith) 1 9 0
     (past-block _ 5 (inr ((omega arith, omega arith), inl ((λ n. omega (arith, n .0)), refl))))
 
--- A message of no bytes.
-no-message : MessageGives 3
-unfolding messageNeeds
-no-message = message-gives nothing 3 (omega arith) [] (past-block _ 3 (inl ((λ w. omega (arith, w .twelve)), refl)))
+-- ---- a message, plain or wide, to that block
 
--- A message with both halves has the form; one whose new half has the id nameCount, and one whose new half has the mask 0.
-both-halves : (x y mask : ℕ) → WellFormed (moving 2 (halfBytes 9 1 2) (halfBytes x y mask))
-unfolding IsKind kindIn flags present markers Marked
-both-halves x y mask =
-    record {
-      twelve = refl;
-      begun =
-          record {
-            kind = (omega arith, omega arith);
-            some-half = (omega arith, omega arith);
-            marked = each-half _ (inl (omega arith)) (inl (omega arith));
-          };
-      absent = each-half _ (λ e. absurd (differ e)) (λ e. absurd (differ e));
-    }
+module _ (form : List ℕ → Sent) (m : List ℕ) where
+  no-form : (FormedOf (form m) → ⊥) → SentGives form 3
+  unfolding sentNeeds
+  no-form wrong = sent-gives nothing 3 (omega arith) form m (past-block _ 3 (inl (wrong, refl)))
 
-no-name : MessageGives 4
-unfolding messageNeeds Named kindIn flags present markers maskWith halfAt halves kindOf number
-no-name =
-    message-gives nothing 4 (omega arith) (moving 2 (halfBytes 9 1 2) (halfBytes 9 nameCount 2))
-    (past-block _ 4 (inr (both-halves 9 nameCount 2, inl ((λ n. omega (arith, n .1 .0 .1)), refl))))
+  module _ (formed : FormedOf (form m)) where
+    abbrev both : List Half
+    both = previousOf (form m) ++ newOf (form m)
 
-no-mask : MessageGives 5
-unfolding messageNeeds Named Masked kindIn flags present markers maskWith halfAt halves kindOf number
-no-mask =
-    message-gives nothing 5 (omega arith) (moving 2 (halfBytes 9 1 2) (halfBytes 9 1 0))
-    (past-block _ 5
-    (inr (
-      both-halves 9 1 0,
-      inr (((omega arith, omega arith), ((omega arith, omega arith), tt)), inl ((λ n. omega (arith, n .1 .0 .0)), refl)),
-    )))
+    no-name : (Each Named both → ⊥) → SentGives form 4
+    unfolding sentNeeds
+    no-name wrong = sent-gives nothing 4 (omega arith) form m (past-block _ 4 (inr (formed, inl (wrong, refl))))
+
+    no-mask : Each Named both → (Each Masked both → ⊥) → SentGives form 5
+    unfolding sentNeeds
+    no-mask named wrong = sent-gives nothing 5 (omega arith) form m (past-block _ 5 (inr (formed, inr (named, inl (wrong, refl)))))
+
+-- A message of no bytes, one with the id nameCount, and one with the mask 0.
+plain-wrong : SentGives plain 3 × SentGives plain 4 × SentGives plain 5
+unfolding Named Masked kindIn flags present markers maskWith halfAt halves kindOf number
+plain-wrong = (
+  no-form plain [] (λ w. omega (arith, w .twelve)),
+  no-name plain (giving 2 9 nameCount 2) (form-test (plain (giving 2 9 nameCount 2)) refl) (λ n. omega (arith, n .0 .1)),
+  no-mask plain (giving 2 9 1 0) (form-test (plain (giving 2 9 1 0)) refl) ((omega arith, omega arith), tt) (λ n. omega (arith, n .0 .0)),
+)
+
+abbrev wide-one : ℕ → ℕ → List ℕ
+wide-one y mask = several 2 2 absent (record { keys = 9 ∷ []; ids = y ∷ []; mask = mask })
+
+wide-wrong : SentGives wide 3 × SentGives wide 4 × SentGives wide 5
+unfolding Named Masked kindIn flags present markers maskWith kindOf number listLength maskIn listOffset namesFrom names listPlace pairs wideHalves
+wide-wrong = (
+  no-form wide [] (λ w. omega (arith, w .header)),
+  no-name wide (wide-one nameCount 2) (form-test (wide (wide-one nameCount 2)) refl) (λ n. omega (arith, n .0 .1)),
+  no-mask wide (wide-one 1 0) (form-test (wide (wide-one 1 0)) refl) ((omega arith, omega arith), tt) (λ n. omega (arith, n .0 .0)),
+)
 
 -- A withdrawal where nothing stands.
 none-stands : Message nothing withdraw (6, nothing)
 unfolding number countAt countFrom count mayHave kindOf kindIn flags present markers maskWith halfAt halves changes ownCount
-none-stands = refused-test (reads 1) nothing nothing withdraw 6 both-withdrawn refl refl
+none-stands = refused-test nothing (plain withdraw) [] 6 refl refl
 
 -- ---- a list of one change: R for the id 1 on a key, given or withdrawn
 
@@ -190,13 +197,13 @@ one-passes = (
 
 -- As the mill's messages: accepted, nothing to withdraw, no count left to add to, and no room.
 list-accepted : CarriesOut nothing (change true 2 9 2) (0, reads 1)
-unfolding Message messageNeeds blockNeeds number countAt mayHave packedChange packedHalf packedKind packed kindOf kindIn flags present markers maskWith halfAt halves changes
+unfolding Sends sentNeeds blockNeeds number countAt mayHave packedChange packedHalf packedKind packed kindOf kindIn flags present markers maskWith halfAt halves changes
 list-accepted =
-    let p = first-passed (λ n. (n, nothing)) (Carried nothing (changes (previous give) (new give)) nothing) (0, reads 1) (λ o. o .0) (λ n. refl) (messageNeeds nothing give) (omega arith) refl first-given in
+    let p = first-passed (λ n. (n, nothing)) (Carried nothing (changes (previous give) (new give)) nothing) (0, reads 1) (λ o. o .0) (λ n. refl) (sentNeeds nothing (plain give)) (omega arith) refl first-given in
     list-decides nothing (change true 2 9 2) (0, reads 1) (p .0 .0, p .0 .1 .0) (one-passes .0) (p .1)
 
-list-refused : (b cs : List ℕ) (r : ℕ) → blockTest b ≡ true → tests cs → changeTest (packedChanges cs) b r ≡ true → CarriesOut b cs (r, b)
-list-refused b cs r g a e = list-decides b cs (r, b) (block-test b g) a (change-test (packedChanges cs) b r e)
+list-refused : (b cs : List ℕ) (r : ℕ) → blockTest b ≡ true → tests cs → stopTest (packedChanges cs) b [] r ≡ true → CarriesOut b cs (r, b)
+list-refused b cs r g a e = list-decides b cs (r, b) (block-test b g) a (stop-test b (packedChanges cs) b [] r e)
 
 list-steps : CarriesOut nothing (change false 2 9 2) (6, nothing) × CarriesOut (reads 65535) (change true 2 9 2) (7, reads 65535)
     × CarriesOut (reads 1) (change true 2 10 2) (8, reads 1)
@@ -236,17 +243,31 @@ unfolding Makes makeNeeds Sized
 make-numbers =
     (nothing, nothing, made nothing refl) and ([], [], inl ((λ s. omega (arith, s .0)), refl)) and tt
 
-pub message-numbers : Each MessageGives messageNumbers
+pub message-numbers : Each (SentGives plain) messageNumbers
 message-numbers =
     (nothing, give, reads 1, first-given)
-    and no-bytes .0
-    and no-header .0
-    and no-message
-    and no-name
-    and no-mask
+    and no-bytes .0 plain
+    and no-header .0 plain
+    and plain-wrong .0
+    and plain-wrong .1
+    and plain-wrong .2
     and (nothing, withdraw, nothing, none-stands)
     and (reads 65535, give, reads 65535, limits-right .1 .0)
     and (reads 1, giving 2 10 1 2, reads 1, limits-right .1 .1 .1 .0)
+    and tt
+
+pub wide-numbers : Each (SentGives wide) messageNumbers
+wide-numbers =
+    let rows = wides-right .1 .1 .1 .1 in
+    (_, giveFour, _, wides-right .0)
+    and no-bytes .0 wide
+    and no-header .0 wide
+    and wide-wrong .0
+    and wide-wrong .1
+    and wide-wrong .2
+    and (_, withdrawFour, _, rows .1 .0)
+    and (_, giveFour, _, rows .0)
+    and (_, _, _, rows .1 .1 .0)
     and tt
 
 pub list-numbers : Each ListGives messageNumbers
@@ -313,14 +334,21 @@ directory-numbers =
     and (nothing, [], [], not-made nothing fine-nothing)
     and tt
 
-message-by-gives : (n : ℕ) → MessageGives n → MessageByGives n
-message-by-gives n (b, m, b′, told) = let k = message-lent b m n b′ told in (b, k .0, m, b′, k .1, k .2)
+module _ (form : List ℕ → Sent) where
+  sent-by-gives : (n : ℕ) → SentGives form n → SentByGives form n
+  sent-by-gives n (b, m, b′, told) = let k = sent-lent b (form m) n b′ told in (b, k .0, m, b′, k .1, k .2)
 
-pub message-by-numbers : Each MessageByGives (byDirectory messageNumbers)
-unfolding MessageBy KeptBy
-message-by-numbers =
-    (nothing, [], give, nothing, [], not-lent nothing fine-nothing (λ n. (n, 0, nothing, [])) _)
-    and each-by MessageGives MessageByGives message-by-gives messageNumbers message-numbers
+  sent-by-numbers : Each (SentGives form) messageNumbers → Each (SentByGives form) (byDirectory messageNumbers)
+  unfolding SendsBy KeptBy
+  sent-by-numbers numbers =
+      (nothing, [], give, nothing, [], not-lent nothing fine-nothing (λ n. (n, 0, nothing, [])) _)
+      and each-by (SentGives form) (SentByGives form) sent-by-gives messageNumbers numbers
+
+pub message-by-numbers : Each (SentByGives plain) (byDirectory messageNumbers)
+message-by-numbers = sent-by-numbers plain message-numbers
+
+pub wide-by-numbers : Each (SentByGives wide) (byDirectory messageNumbers)
+wide-by-numbers = sent-by-numbers wide wide-numbers
 
 write-by-gives : (n : ℕ) → WriteGives n → WriteByGives n
 write-by-gives n (b, kind, x, out, r, told) =

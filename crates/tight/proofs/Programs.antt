@@ -1,16 +1,16 @@
 -- What a program that meets its promises does: it gives the one outcome that each promise allows.
-use Prim.Native.Nat.{ℕ}
+use Prim.Native.Nat.{ℕ, _<_}
 use mathlib.Core.Path.{_≡_, refl, _∙_, ap, subst}
-use mathlib.Core.List.{List, [], _∷_, map}
-use Rattle.index.specs.Calls.{Makes, Message, WritesSet, ReadsSet}
+use mathlib.Core.List.{List, [], _∷_}
+use Rattle.index.specs.Wide.{Sent}
+use Rattle.index.specs.Calls.{Makes, Sends, WritesSet, ReadsSet}
 use Rattle.index.specs.History.{Accepted, Labelled, Statement, History}
-use Rattle.index.specs.History.Sent.{plain}
 use Rattle.index.specs.History.Accepted.{nothing, next}
 use Rattle.index.proofs.laws.demands.OneCall.{one-make, one-write, one-read}
-use Rattle.index.proofs.laws.message.OneMessage.{one-message}
-use Rattle.index.proofs.laws.demands.Unchanged.{message-unchanged}
-use Rattle.directory.specs.By.{MakesDirectory, MessageBy, ReadBy, WriteBy}
-use Rattle.directory.proofs.OneBy.{one-made, one-message-by, one-read-by, one-write-by}
+use Rattle.index.proofs.laws.message.OneMessage.{one-sent}
+use Rattle.index.proofs.laws.demands.Unchanged.{sent-unchanged}
+use Rattle.directory.specs.By.{MakesDirectory, SendsBy, ReadBy, WriteBy}
+use Rattle.directory.proofs.OneBy.{one-made, one-sent-by, one-read-by, one-write-by}
 use Rattle.rights.specs.Questions.{Full, Short, FullBy, ShortBy}
 use Rattle.rights.proofs.laws.questions.OneAnswer.{one-full, one-short}
 use Rattle.rights.proofs.laws.questions.SameAnswers.{one-full-by, one-short-by}
@@ -22,8 +22,8 @@ module _ (p : Program) (meets : Meets p) where
   pub makes : {b : List ℕ} {o : ℕ × List ℕ} → Makes b o → p .make b ≡ o
   makes {b} {o} h = one-make b (p .make b) o (meets .make b) h
 
-  pub does : {b m : List ℕ} {o : ℕ × List ℕ} → Message b m o → p .message b m ≡ o
-  does {b} {m} {o} h = one-message b m (p .message b m) o (meets .message b m) h
+  pub does : {b : List ℕ} {m : Sent} {o : ℕ × List ℕ} → Sends b m o → p .sends b m ≡ o
+  does {b} {m} {o} h = one-sent b m (p .sends b m) o (meets .sends b m) h
 
   pub writes : {b : List ℕ} {kind x : ℕ} {out : List ℕ} {o : ℕ × ℕ × List ℕ} → WritesSet b kind x out o → p .write b kind x out ≡ o
   writes {b} {kind} {x} {out} {o} h = one-write b kind x out (p .write b kind x out) o (meets .write b kind x out) h
@@ -42,8 +42,8 @@ module _ (p : Program) (meets : Meets p) where
   pub makes-directory : {b d : List ℕ} {o : ℕ × List ℕ} → MakesDirectory b d o → p .directory b d ≡ o
   makes-directory {b} {d} {o} h = one-made b d (p .directory b d) o (meets .directory b d) h
 
-  pub does-by : {b d m : List ℕ} {o : ℕ × ℕ × List ℕ × List ℕ} → MessageBy b d m o → p .message-by b d m ≡ o
-  does-by {b} {d} {m} {o} h = one-message-by b d m (p .message-by b d m) o (meets .message-by b d m) h
+  pub does-by : {b d : List ℕ} {m : Sent} {o : ℕ × ℕ × List ℕ × List ℕ} → SendsBy b d m o → p .sends-by b d m ≡ o
+  does-by {b} {d} {m} {o} h = one-sent-by b d m (p .sends-by b d m) o (meets .sends-by b d m) h
 
   pub writes-by : {b d : List ℕ} {kind x : ℕ} {out : List ℕ} {o : ℕ × ℕ × List ℕ} → WriteBy b d kind x out o
       → p .write-by b d kind x out ≡ o
@@ -62,16 +62,19 @@ module _ (p : Program) (meets : Meets p) where
 
   -- ---- messages one after the other
 
-  pub runs : {b b′ : List ℕ} (ms : List (List ℕ)) → Accepted b (map plain ms) b′ → run p b ms ≡ b′
+  pub runs : {b b′ : List ℕ} (ms : List Sent) → Accepted b ms b′ → run p b ms ≡ b′
   runs [] nothing = refl
   runs (m ∷ ms) (next h r) = ap (λ (o : ℕ × List ℕ). run p (o .1) ms) (does h) ∙ runs ms r
+
+  -- A refusal leaves the block as it was.
+  pub keeps : (b : List ℕ) (m : Sent) → 0 < p .sends b m .0 → p .sends b m .1 ≡ b
+  keeps b m l = ap (λ (o : ℕ × List ℕ). o .1) (sent-unchanged b m (p .sends b m) (meets .sends b m) l .1)
 
   pub as-history : {b b′ : List ℕ} {s s′ : List Statement} {ms : List Labelled} → Handed p b s ms b′ s′ → History b s ms b′ s′
   as-history Handed.nothing = History.nothing
   as-history (Handed.accepted {b = b} {m = m} e q h) =
-      History.accepted (subst (λ (n : ℕ). Message b m (n, p .message b m .1)) e (meets .message b m)) q (as-history h)
+      History.accepted (subst (λ (n : ℕ). Sends b (m .sent) (n, p .sends b (m .sent) .1)) e (meets .sends b (m .sent))) q (as-history h)
   as-history (Handed.refused {b = b} {b′ = b′} {m = m} {s = s} {s′ = s′} {ms = ms} l h) =
-      let u = message-unchanged b m (p .message b m) (meets .message b m) l in
-      let e : p .message b m .1 ≡ b = ap (λ (o : ℕ × List ℕ). o .1) (u .1) in
-      History.refused l (subst (λ (c : List ℕ). Message b m (p .message b m .0, c)) e (meets .message b m))
+      let e = keeps b (m .sent) l in
+      History.refused l (subst (λ (c : List ℕ). Sends b (m .sent) (p .sends b (m .sent) .0, c)) e (meets .sends b (m .sent)))
       (subst (λ (c : List ℕ). History c s ms b′ s′) e (as-history h))

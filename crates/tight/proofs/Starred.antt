@@ -9,10 +9,11 @@ use Rattle.index.specs.Numbers.{Each}
 use Rattle.index.specs.Block.{number, countAt, countFrom, count, room}
 use Rattle.index.specs.Message.{kindOf, kindNumber, kindIn, flags, present, maskWith, halfAt, halves, changes, moves, taken, added, ownCount, Marked, WellFormed}
 use Rattle.index.specs.Message as message
+use Rattle.index.specs.Wide.{listLength, maskIn, listOffset, namesFrom, names, listPlace, Rising, WideFormed, pairs, wideHalves}
 use Rattle.index.specs.Text.{digitsOf, decimal, pieceOf, piecesOf, entryText, textOf, countsFrom, countsAt, setFrom, setOf}
 use Rattle.index.specs.work.Reading.{digit, reaches, readDigits, readNumber, readCount, readLetter, readCounts, readMark, readRecord, readMore, readRecords, parse}
-use Rattle.tight.specs.Blocks.{once, block, takesX, giving, nothing, reads}
-use Rattle.tight.specs.Examples.{Case, Shows, granted, masks, texts, places, chains, examined, appointments, limits, member, markers, firms, cases}
+use Rattle.tight.specs.Blocks.{twos, once, block, takesX, giving, absent, several, nothing, reads}
+use Rattle.tight.specs.Examples.{Case, Shows, granted, masks, texts, places, chains, examined, appointments, limits, member, markers, firms, lot, four, giveFour, reader, readers, wides, cases}
 use Rattle.index.proofs.laws.message.Halves.{differ}
 use Rattle.tight.proofs.CaseTest.{all-mean}
 
@@ -61,9 +62,9 @@ limits-right =
     let moved : List ℕ = block [] (once 10 1 2 ∷ []) [] 0 in
     all-mean limits
     ((reads 65534 ∷ reads 65535 ∷ [], refl, refl)
-    and (nothing, reads 1 ∷ [], refl, refl, refl)
+    and ([], refl, refl)
     and (nothing ∷ moved ∷ [], refl, refl)
-    and (nothing, moved ∷ [], refl, refl, refl)
+    and ([], refl, refl)
     and tt)
 
 -- M-107: the markers. A message with both, one with a marker on its absent half, and one of another kind.
@@ -91,8 +92,8 @@ markers-right =
     and (member 1 0 0 ∷ member 2 0 1 ∷ [], refl, refl)
     and (nothing ∷ [], refl, refl)
     and (member 0 1 0 ∷ [], refl, refl)
-    and (member 1 1 0, nothing ∷ [], refl, refl, refl)
-    and (nothing, member 1 1 0 ∷ [], refl, refl, refl)
+    and ([], refl, refl)
+    and ([], refl, refl)
     and (refl, both-markers)
     and (refl, on-absent)
     and (refl, on-others .0)
@@ -130,6 +131,91 @@ firms-right =
     and refl
     and tt)
 
+-- M-100: wide messages. A list that is empty, too long or not strictly rising, an absent half with lists or with a mask, and a header or a
+-- length that is wrong.
+no-list : WideFormed (several 2 2 absent (lot [] (3 ∷ []))) → ⊥
+unfolding present flags listLength
+no-list w = omega (arith, w .lists 1 (omega arith) refl .0 .0)
+
+nine-ids : WideFormed (several 2 2 absent (lot (7 ∷ []) (1 ∷ 2 ∷ 3 ∷ 4 ∷ 5 ∷ 6 ∷ 7 ∷ 8 ∷ 9 ∷ []))) → ⊥
+unfolding present flags listLength
+nine-ids w = omega (arith, w .lists 1 (omega arith) refl .1 .1)
+
+not-rising : (WideFormed (several 2 2 absent (lot (7 ∷ []) (3 ∷ 3 ∷ []))) → ⊥)
+    × (WideFormed (several 2 2 absent (lot (7 ∷ []) (4 ∷ 3 ∷ []))) → ⊥)
+unfolding present flags listLength listOffset number namesFrom names Rising
+not-rising = (
+  (λ w. omega (arith, w .lists 1 (omega arith) refl .1 .2 .0 .0)),
+  (λ w. omega (arith, w .lists 1 (omega arith) refl .1 .2 .0 .0)),
+)
+
+not-absent : (WideFormed (several 2 2 four four) → ⊥) × (WideFormed (several 2 2 (record { keys = []; ids = []; mask = 2 }) four) → ⊥)
+unfolding present flags listLength maskIn
+not-absent = (
+  (λ w. omega (arith, w .absent 0 (omega arith) refl .0)),
+  (λ w. omega (arith, w .absent 0 (omega arith) refl .2)),
+)
+
+too-long : WideFormed (giveFour ++ (0 ∷ [])) → ⊥
+unfolding listLength listPlace
+too-long w = omega (arith, w .ends)
+
+no-offset : WideFormed (2 ∷ 2 ∷ 0 ∷ 0 ∷ 1 ∷ 1 ∷ 0 ∷ 2 ∷ (twos (0 ∷ 16 ∷ 16 ∷ 18 ∷ []) ++ twos (7 ∷ 3 ∷ []))) → ⊥
+unfolding listOffset number listPlace
+no-offset w = omega (arith, w .offsets 0 (omega arith))
+
+pub wides-right : Each Shows wides
+unfolding number countAt countFrom count room mayHave kindOf kindNumber kindIn flags present message.markers maskWith halfAt halves changes moves taken added ownCount listLength maskIn listOffset namesFrom names listPlace pairs wideHalves
+wides-right =
+    all-mean wides
+    ((
+      readers (reader 7 3 1 ∷ []) 3
+          ∷ readers (reader 7 3 1 ∷ reader 7 4 1 ∷ []) 2
+          ∷ readers (reader 7 3 1 ∷ reader 7 4 1 ∷ reader 9 3 1 ∷ []) 1
+          ∷ readers (reader 7 3 1 ∷ reader 7 4 1 ∷ reader 9 3 1 ∷ reader 9 4 1 ∷ []) 0 ∷ [],
+      refl,
+      refl,
+    )
+    and (readers (reader 7 3 2 ∷ reader 7 4 1 ∷ reader 9 3 1 ∷ reader 9 4 1 ∷ []) 0 ∷ [], refl, refl)
+    and (
+      readers (reader 7 3 1 ∷ reader 7 4 1 ∷ reader 9 3 1 ∷ reader 9 4 1 ∷ []) 0
+          ∷ readers (reader 7 3 1 ∷ reader 9 3 1 ∷ reader 9 4 1 ∷ []) 1
+          ∷ readers (reader 7 3 1 ∷ reader 9 4 1 ∷ []) 2
+          ∷ readers (reader 7 3 1 ∷ []) 3 ∷ [],
+      refl,
+      refl,
+    )
+    and (
+      readers (reader 7 4 1 ∷ []) 1
+          ∷ readers [] 2
+          ∷ readers (reader 9 3 1 ∷ []) 1
+          ∷ readers (reader 9 3 1 ∷ reader 9 4 1 ∷ []) 0 ∷ [],
+      refl,
+      refl,
+    )
+    and (readers (reader 7 3 2 ∷ reader 7 4 65535 ∷ reader 9 4 1 ∷ []) 0 ∷ [], refl, refl)
+    and (readers (reader 9 3 1 ∷ reader 9 4 1 ∷ []) 1 ∷ [], refl, refl)
+    and (
+      readers (reader 7 3 1 ∷ reader 7 4 1 ∷ reader 9 3 2 ∷ reader 9 4 2 ∷ []) 0
+          ∷ readers (reader 7 3 1 ∷ reader 9 3 2 ∷ reader 9 4 2 ∷ []) 1
+          ∷ readers (reader 7 3 1 ∷ reader 9 3 1 ∷ reader 9 4 2 ∷ []) 1
+          ∷ readers (reader 7 3 1 ∷ reader 9 3 1 ∷ reader 9 4 1 ∷ []) 1
+          ∷ readers (reader 7 3 1 ∷ reader 8 3 1 ∷ reader 9 3 1 ∷ reader 9 4 1 ∷ []) 0 ∷ [],
+      refl,
+      refl,
+    )
+    and (reads 1 ∷ [], refl, refl)
+    and (refl, no-list)
+    and (refl, nine-ids)
+    and (refl, not-rising .0)
+    and (refl, not-rising .1)
+    and (refl, not-absent .0)
+    and (refl, not-absent .1)
+    and (refl, too-long)
+    and (refl, no-offset)
+    and (member 1 1 0 ∷ [], refl, refl)
+    and tt)
+
 -- A table with what it says; and one more table before it.
 abbrev Table : Type 0
 Table = (xs : List Case) × Each Shows xs
@@ -149,5 +235,6 @@ table =
     (after places places-right
     (after chains chains-right
     (after examined examined-right
-    (after appointments appointments-right (after limits limits-right (after markers markers-right (firms, firms-right))))))))
+    (after appointments appointments-right
+    (after limits limits-right (after markers markers-right (after firms firms-right (wides, wides-right)))))))))
     .1

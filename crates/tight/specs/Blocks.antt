@@ -5,6 +5,7 @@ use lib.ListN.{length}
 use Rattle.index.specs.Letters.{letterCount}
 use Rattle.index.specs.Block.{recordLength, place}
 use Rattle.index.specs.Message.{halfLength}
+use Rattle.index.specs.Wide.{wideHeader}
 
 -- A 16-bit number in two bytes, the low one first.
 abbrev pub two : ℕ → List ℕ
@@ -77,6 +78,35 @@ withdrawing kind x y mask = kind ∷ 1 ∷ (halfBytes x y mask ++ zeros halfLeng
 
 abbrev pub moving : ℕ → List ℕ → List ℕ → List ℕ
 moving kind before after = kind ∷ 3 ∷ (before ++ after)
+
+-- ---- wide messages (M-100)
+
+-- A half of one: its keys, its ids and its mask; and an absent one.
+pub record Several : Type 0 where
+  pub keys : List ℕ
+  pub ids : List ℕ
+  pub mask : ℕ
+
+abbrev pub absent : Several
+absent = record { keys = []; ids = []; mask = 0 }
+
+-- "Its 16-byte header has kind, flags, four list lengths (previous keys, previous ids, new keys, new ids), two masks, one byte each, then
+-- four 16-bit offsets from its first byte; the lists of 16-bit names follow in that order without gaps."
+abbrev pub several : ℕ → ℕ → Several → Several → List ℕ
+several kind flags previous new =
+    let second = wideHeader + 2 * length (previous .keys) in
+    let third = second + 2 * length (previous .ids) in
+    let fourth = third + 2 * length (new .keys) in
+    kind
+    ∷ flags
+    ∷ length (previous .keys)
+    ∷ length (previous .ids)
+    ∷ length (new .keys)
+    ∷ length (new .ids)
+    ∷ previous .mask
+    ∷ new .mask
+    ∷ (twos (wideHeader ∷ second ∷ third ∷ fourth ∷ [])
+    ++ (twos (previous .keys) ++ (twos (previous .ids) ++ (twos (new .keys) ++ twos (new .ids)))))
 
 -- ---- the mill's own case: R on key 9 for id 1, in a block of 40 bytes
 

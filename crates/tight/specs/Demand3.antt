@@ -5,8 +5,9 @@ use mathlib.Core.List.{List, [], List·Permᴰ}
 use Rattle.index.specs.declared.Kind.{Kind}
 use Rattle.index.specs.Letters.{letterCount}
 use Rattle.index.specs.Block.{Good, count}
+use Rattle.index.specs.Wide.{Sent}
 use Rattle.index.specs.Calls.{Makes}
-use Rattle.index.specs.History.{Sent, Accepted, Labelled, Statement, History, tally}
+use Rattle.index.specs.History.{Accepted, Labelled, Statement, History, tally}
 
 -- "Take any good block and any list of messages. If two orders of that list are both accepted without a refusal, the two
 -- blocks end equal, byte for byte."

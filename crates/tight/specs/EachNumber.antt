@@ -1,15 +1,17 @@
--- 01, "Numbers a caller can get", and M-106: which calls give which numbers. A call gives a number when it does so for some input.
+-- 01, "Numbers a caller can get", M-100 and M-106: which calls give which numbers. A call gives a number when it does so for some input.
 use Prim.Native.Nat.{ℕ}
 use mathlib.Core.List.{List, [], _∷_}
-use Rattle.index.specs.Calls.{Makes, Message, CarriesOut, WritesSet, ReadsSet}
-use Rattle.directory.specs.By.{MakesDirectory, MessageBy, ReadBy, WriteBy}
+use Rattle.index.specs.Wide.{Sent}
+use Rattle.index.specs.Calls.{Makes, Sends, CarriesOut, WritesSet, ReadsSet}
+use Rattle.directory.specs.By.{MakesDirectory, SendsBy, ReadBy, WriteBy}
 use Rattle.rights.specs.Questions.{Full, Short, FullBy, ShortBy}
 
 abbrev pub MakeGives : ℕ → Type 0
 MakeGives n = (b : List ℕ) × (b′ : List ℕ) × Makes b (n, b′)
 
-abbrev pub MessageGives : ℕ → Type 0
-MessageGives n = (b : List ℕ) × (m : List ℕ) × (b′ : List ℕ) × Message b m (n, b′)
+-- A message of this form, plain or wide.
+abbrev pub SentGives : (List ℕ → Sent) → ℕ → Type 0
+SentGives form n = (b : List ℕ) × (m : List ℕ) × (b′ : List ℕ) × Sends b (form m) (n, b′)
 
 -- carry_out, the door for a list of changes, which gives the numbers of a message.
 abbrev pub ListGives : ℕ → Type 0
@@ -34,9 +36,9 @@ QuestionsGive n =
 abbrev pub DirectoryGives : ℕ → Type 0
 DirectoryGives n = (b : List ℕ) × (d : List ℕ) × (d′ : List ℕ) × MakesDirectory b d (n, d′)
 
-abbrev pub MessageByGives : ℕ → Type 0
-MessageByGives n =
-    (b : List ℕ) × (d : List ℕ) × (m : List ℕ) × (b′ : List ℕ) × (d′ : List ℕ) × MessageBy b d m (n, 0, b′, d′)
+abbrev pub SentByGives : (List ℕ → Sent) → ℕ → Type 0
+SentByGives form n =
+    (b : List ℕ) × (d : List ℕ) × (m : List ℕ) × (b′ : List ℕ) × (d′ : List ℕ) × SendsBy b d (form m) (n, 0, b′, d′)
 
 abbrev pub WriteByGives : ℕ → Type 0
 WriteByGives n =
@@ -58,6 +60,7 @@ QuestionsByGive n =
 abbrev pub makeNumbers : List ℕ
 makeNumbers = 0 ∷ 1 ∷ []
 
+-- Of a wide message too.
 abbrev pub messageNumbers : List ℕ
 messageNumbers = 0 ∷ 1 ∷ 2 ∷ 3 ∷ 4 ∷ 5 ∷ 6 ∷ 7 ∷ 8 ∷ []
 

@@ -1,5 +1,5 @@
--- 01, "Examples to hold it to": the starred ones, as one table, with some of M-101, M-102, M-107 and M-109. A case says what it says by
--- the promises of the calls.
+-- 01, "Examples to hold it to": the starred ones, as one table, with some of M-100, M-101, M-102, M-107 and M-109. A case says what it says
+-- by the promises of the calls.
 use Prim.Native.Nat.{ℕ, suc, _+_, _-_, _≤_}
 use mathlib.Core.Path.{_≡_}
 use mathlib.Core.List.{List, [], _∷_, _++_}
@@ -9,9 +9,11 @@ use Rattle.index.specs.declared.Kind.the-variants.{Membership, Permission, Filt
 use Rattle.index.specs.Letters.{letterCount, allRights}
 use Rattle.index.specs.Block.{IsName, Sized, Good}
 use Rattle.index.specs.Message.{IsKind, kindOf}
-use Rattle.index.specs.Calls.{Message, WritesSet, ReadsSet}
+use Rattle.index.specs.Wide.{Sent}
+use Rattle.index.specs.Wide.Sent.{plain, wide}
+use Rattle.index.specs.Calls.{Sends, WritesSet, ReadsSet}
 use Rattle.rights.specs.Questions.{Full}
-use Rattle.tight.specs.Blocks.{Row, once, block, zeros, takesX, addsX, halfBytes, giving, withdrawing, moving, nothing, reads, give, withdraw}
+use Rattle.tight.specs.Blocks.{twos, Row, once, block, zeros, takesX, addsX, halfBytes, giving, withdrawing, moving, Several, absent, several, nothing, reads, give, withdraw}
 
 pub data Case : Type 0 where
   -- on the block, the user holds these rights on the object, and so many M records are examined on the user's side and on the
@@ -28,11 +30,11 @@ pub data Case : Type 0 where
   -- the empty text is accepted, with 0 records
   empty : Case
   -- the message is accepted, and the block is then this
-  accepted : (block message after : List ℕ) → Case
+  accepted : (block : List ℕ) (message : Sent) (after : List ℕ) → Case
   -- the message is refused with the number, and the block is as it was
-  refused : (block message : List ℕ) (number : ℕ) → Case
+  refused : (block : List ℕ) (message : Sent) (number : ℕ) → Case
   -- the message is refused with 3, and the block is as it was
-  malformed : (block message : List ℕ) → Case
+  malformed : (block : List ℕ) (message : Sent) → Case
 
 -- On every good block, for every kind and key.
 abbrev pub Anywhere : (List ℕ → ℕ → ℕ → Type 0) → Type 0
@@ -48,9 +50,9 @@ Shows (Case.text b kind x t n) =
 Shows (Case.wrong t place) = Anywhere (λ b kind x. ReadsSet b kind x t (9, place (kindOf kind), b))
 Shows Case.empty =
     Anywhere (λ b kind x. (o : ℕ × ℕ × List ℕ) → ReadsSet b kind x [] o → (o .0 ≡ 0) × (o .1 ≡ 0))
-Shows (Case.accepted b m b′) = Message b m (0, b′)
-Shows (Case.refused b m n) = Message b m (n, b)
-Shows (Case.malformed b m) = Message b m (3, b)
+Shows (Case.accepted b m b′) = Sends b m (0, b′)
+Shows (Case.refused b m n) = Sends b m (n, b)
+Shows (Case.malformed b m) = Sends b m (3, b)
 
 -- A place that is the same for all kinds, and one that is another for permissions.
 abbrev pub always : ℕ → Kind → ℕ
@@ -83,9 +85,9 @@ twoText = 51 ∷ 59 ∷ 77 ∷ 82 ∷ 85 ∷ 59 ∷ 49 ∷ 50 ∷ 59 ∷ 77 ∷ 
 abbrev pub masks : List Case
 masks =
     -- "P mask 135 gives net 7; 79 gives 11."
-    Case.accepted nothing (giving 2 9 1 135) (granted 135)
+    Case.accepted nothing (plain (giving 2 9 1 135)) (granted 135)
     ∷ Case.rights (granted 135) 1 9 7 0 0
-    ∷ Case.accepted nothing (giving 2 9 1 79) (granted 79)
+    ∷ Case.accepted nothing (plain (giving 2 9 1 79)) (granted 79)
     ∷ Case.rights (granted 79) 1 9 11 0 0 ∷ []
 
 abbrev pub texts : List Case
@@ -177,22 +179,22 @@ examined =
 abbrev pub appointments : List Case
 appointments =
     -- "Two statements each give R on key 9 to id 1; one is withdrawn: count 1, right held. Both: no record."
-    Case.accepted nothing give (reads 1)
-    ∷ Case.accepted (reads 1) give (reads 2)
-    ∷ Case.accepted (reads 2) withdraw (reads 1)
+    Case.accepted nothing (plain give) (reads 1)
+    ∷ Case.accepted (reads 1) (plain give) (reads 2)
+    ∷ Case.accepted (reads 2) (plain withdraw) (reads 1)
     ∷ Case.rights (reads 1) 1 9 2 0 0
-    ∷ Case.accepted (reads 1) withdraw nothing
+    ∷ Case.accepted (reads 1) (plain withdraw) nothing
     ∷ Case.rights nothing 1 9 0 0 0 ∷ []
 
 abbrev pub limits : List Case
 limits =
     -- "Count 65,535, message R to R: accepted. Another new R: 7."
-    Case.accepted (reads 65535) (moving 2 (halfBytes 9 1 2) (halfBytes 9 1 2)) (reads 65535)
-    ∷ Case.refused (reads 65535) give 7
+    Case.accepted (reads 65535) (plain (moving 2 (halfBytes 9 1 2) (halfBytes 9 1 2))) (reads 65535)
+    ∷ Case.refused (reads 65535) (plain give) 7
     -- "holding one record, a message moving its only statement to another key: accepted. A second record: 8." M-107: the block of 36
     -- bytes becomes one of 40.
-    ∷ Case.accepted (reads 1) (moving 2 (halfBytes 9 1 2) (halfBytes 10 1 2)) (block [] (once 10 1 2 ∷ []) [] 0)
-    ∷ Case.refused (reads 1) (giving 2 10 1 2) 8 ∷ []
+    ∷ Case.accepted (reads 1) (plain (moving 2 (halfBytes 9 1 2) (halfBytes 10 1 2))) (block [] (once 10 1 2 ∷ []) [] 0)
+    ∷ Case.refused (reads 1) (plain (giving 2 10 1 2)) 8 ∷ []
 
 -- ---- M-107, "Exclusive groups"
 
@@ -218,20 +220,20 @@ fromXtoN = moving (takesX + 32) (halfBytes 1 10 3) (halfBytes 1 10 3)
 abbrev pub markers : List Case
 markers =
     -- "Markers are taken and added with the letters": M and R with X, the same again without it, and from X to N.
-    Case.accepted nothing giveX (member 1 1 0)
-    ∷ Case.accepted (member 1 1 0) (giving 1 1 10 3) (member 2 1 0)
-    ∷ Case.accepted (member 2 1 0) fromXtoN (member 2 0 1)
+    Case.accepted nothing (plain giveX) (member 1 1 0)
+    ∷ Case.accepted (member 1 1 0) (plain (giving 1 1 10 3)) (member 2 1 0)
+    ∷ Case.accepted (member 2 1 0) (plain fromXtoN) (member 2 0 1)
     -- What is taken is what is quoted: without its marker the statement leaves a record with a marker count alone.
-    ∷ Case.accepted (member 1 1 0) (withdrawing takesX 1 10 3) nothing
-    ∷ Case.accepted (member 1 1 0) (withdrawing 1 1 10 3) (member 0 1 0)
+    ∷ Case.accepted (member 1 1 0) (plain (withdrawing takesX 1 10 3)) nothing
+    ∷ Case.accepted (member 1 1 0) (plain (withdrawing 1 1 10 3)) (member 0 1 0)
     -- "a marker with nothing to take is 6, at 65,535 is 7"
-    ∷ Case.refused (member 1 0 1) (withdrawing takesX 1 10 3) 6
-    ∷ Case.refused (member 1 65535 0) giveX 7
+    ∷ Case.refused (member 1 0 1) (plain (withdrawing takesX 1 10 3)) 6
+    ∷ Case.refused (member 1 65535 0) (plain giveX) 7
     -- "both markers in one half, a marker on an absent half or on kinds 2 and 3 is 3"
-    ∷ Case.malformed nothing (giving 49 1 10 3)
-    ∷ Case.malformed nothing (giving takesX 1 10 3)
-    ∷ Case.malformed nothing (giving 18 1 10 3)
-    ∷ Case.malformed nothing (giving 19 1 10 3)
+    ∷ Case.malformed nothing (plain (giving 49 1 10 3))
+    ∷ Case.malformed nothing (plain (giving takesX 1 10 3))
+    ∷ Case.malformed nothing (plain (giving 18 1 10 3))
+    ∷ Case.malformed nothing (plain (giving 19 1 10 3))
     -- "In text X and N follow the letters; P and F records have neither".
     ∷ Case.text markedRecord 1 7 markedText 1
     ∷ Case.wrong (51 ∷ 59 ∷ 88 ∷ 77 ∷ []) (memberships 3 2)
@@ -301,6 +303,69 @@ firms =
     ∷ Case.holds (deep 32) 1 100 2
     ∷ Case.holds (deep 33) 1 100 0 ∷ []
 
--- All of them, in 01's order, with what M-101, M-102, M-107 and M-109 add.
+-- ---- M-100, "Statements with several objects and subjects"
+
+-- R on each of these keys for each of these ids.
+abbrev pub lot : List ℕ → List ℕ → Several
+lot xs ys = record { keys = xs; ids = ys; mask = 2 }
+
+-- R on 7 and on 9, for 3 and for 4: given, withdrawn, and left on 9 alone.
+abbrev pub four : Several
+four = lot (7 ∷ 9 ∷ []) (3 ∷ 4 ∷ [])
+
+abbrev pub giveFour : List ℕ
+giveFour = several 2 2 absent four
+
+abbrev pub withdrawFour : List ℕ
+withdrawFour = several 2 1 four absent
+
+abbrev pub narrowFour : List ℕ
+narrowFour = several 2 3 four (lot (9 ∷ []) (3 ∷ 4 ∷ []))
+
+-- The P record of a key and an id in which R counts n; and the block with such records and room for n more.
+abbrev pub reader : ℕ → ℕ → ℕ → Row
+reader x y n = record { key = x; id = y; counts = 0 ∷ n ∷ zeros (letterCount - 2) }
+
+abbrev pub readers : List Row → ℕ → List ℕ
+readers rows n = block [] rows [] n
+
+abbrev pub wides : List Case
+wides =
+    -- "stands for every pair": four records; a plain statement gives one of them too, and when the wide one ends, that one still stands.
+    -- "a wide statement counts once in each of its pairs".
+    Case.accepted (readers [] 4) (wide giveFour) (readers (reader 7 3 1 ∷ reader 7 4 1 ∷ reader 9 3 1 ∷ reader 9 4 1 ∷ []) 0)
+    ∷ Case.accepted (readers (reader 7 3 1 ∷ reader 7 4 1 ∷ reader 9 3 1 ∷ reader 9 4 1 ∷ []) 0) (plain (giving 2 7 3 2))
+    (readers (reader 7 3 2 ∷ reader 7 4 1 ∷ reader 9 3 1 ∷ reader 9 4 1 ∷ []) 0)
+    ∷ Case.accepted (readers (reader 7 3 2 ∷ reader 7 4 1 ∷ reader 9 3 1 ∷ reader 9 4 1 ∷ []) 0) (wide withdrawFour)
+    (readers (reader 7 3 1 ∷ []) 3)
+    -- "All of the previous half is taken away, then all of the new added": there is room for two records only.
+    ∷ Case.accepted (readers (reader 7 3 1 ∷ reader 7 4 1 ∷ []) 0) (wide (several 2 3 (lot (7 ∷ []) (3 ∷ 4 ∷ [])) (lot (9 ∷ []) (3 ∷ 4 ∷ []))))
+    (readers (reader 9 3 1 ∷ reader 9 4 1 ∷ []) 0)
+    -- "the first of 6, 7 or 8 met in pair order", "by key then id": the second pair, 7 with 4, is refused with 7; by id then key it would be
+    -- 9 with 3, and 8.
+    ∷ Case.refused (readers (reader 7 3 1 ∷ reader 7 4 65535 ∷ reader 9 4 1 ∷ []) 0) (wide giveFour) 7
+    -- The first pair is taken away with its record, then the second has nothing to take: both are as they were.
+    ∷ Case.refused (readers (reader 7 3 1 ∷ reader 9 3 1 ∷ reader 9 4 1 ∷ []) 0) (wide withdrawFour) 6
+    -- All four are taken away, then the first of the new half is added, and the second finds no room.
+    ∷ Case.refused (readers (reader 7 3 2 ∷ reader 7 4 1 ∷ reader 9 3 2 ∷ reader 9 4 2 ∷ []) 0)
+    (wide (several 2 3 four (lot (8 ∷ []) (3 ∷ 4 ∷ [])))) 8
+    -- One pair says what a plain message says.
+    ∷ Case.accepted nothing (wide (several 2 2 absent (lot (9 ∷ []) (1 ∷ [])))) (reads 1)
+    -- "a present half's list that is empty, too long or not strictly rising": no key, nine ids, the same id twice, ids that fall.
+    ∷ Case.malformed nothing (wide (several 2 2 absent (lot [] (3 ∷ []))))
+    ∷ Case.malformed nothing (wide (several 2 2 absent (lot (7 ∷ []) (1 ∷ 2 ∷ 3 ∷ 4 ∷ 5 ∷ 6 ∷ 7 ∷ 8 ∷ 9 ∷ []))))
+    ∷ Case.malformed nothing (wide (several 2 2 absent (lot (7 ∷ []) (3 ∷ 3 ∷ []))))
+    ∷ Case.malformed nothing (wide (several 2 2 absent (lot (7 ∷ []) (4 ∷ 3 ∷ []))))
+    -- "An absent half has lengths and mask zero."
+    ∷ Case.malformed nothing (wide (several 2 2 four four))
+    ∷ Case.malformed nothing (wide (several 2 2 (record { keys = []; ids = []; mask = 2 }) four))
+    -- "a wrong header or length": a byte more; and an offset of 0 for a list of the absent half, which would begin at 16.
+    ∷ Case.malformed nothing (wide (giveFour ++ (0 ∷ [])))
+    ∷ Case.malformed nothing
+    (wide (2 ∷ 2 ∷ 0 ∷ 0 ∷ 1 ∷ 1 ∷ 0 ∷ 2 ∷ (twos (0 ∷ 16 ∷ 16 ∷ 18 ∷ []) ++ twos (7 ∷ 3 ∷ []))))
+    -- M-107: "Wide messages and appointments carry markers".
+    ∷ Case.accepted nothing (wide (several addsX 2 absent (record { keys = 1 ∷ []; ids = 10 ∷ []; mask = 3 }))) (member 1 1 0) ∷ []
+
+-- All of them, in 01's order, with what M-100, M-101, M-102, M-107 and M-109 add.
 abbrev pub cases : List Case
-cases = masks ++ (texts ++ (places ++ (chains ++ (examined ++ (appointments ++ (limits ++ (markers ++ firms)))))))
+cases = masks ++ (texts ++ (places ++ (chains ++ (examined ++ (appointments ++ (limits ++ (markers ++ (firms ++ wides))))))))
