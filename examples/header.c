@@ -1,5 +1,6 @@
-/* Tests what the header gives beside the calls of the rules, as C99 and as C++11: the helpers, the longest text, the places of
- * wrong texts, the parts of a full question's answer, the calls that go through a block record by record, and a directory. */
+/* Tests what the header gives beside the calls of the rules, as C99 and as C++11: the helpers, messages and wide messages, the
+ * longest text, the places of wrong texts, the parts of a full question's answer, the calls that go through a block record by
+ * record, and a directory. */
 #include "anaqsiro.h"
 
 #include <stdio.h>
@@ -46,6 +47,8 @@ static void test_lengths(void) {
     same("a block with room for one", ANAQSIRO_BLOCK_MIN + ANAQSIRO_RECORD, 40);
     same("the longest block", ANAQSIRO_BLOCK_MAX, 49168);
     same("a message", ANAQSIRO_MESSAGE, 12);
+    same("the longest list", ANAQSIRO_LIST_MAX, 8);
+    same("the longest wide message", ANAQSIRO_WIDE_MAX, 80);
     same("the longest text", ANAQSIRO_TEXT_MAX, 54185);
     same("a part", ANAQSIRO_DIRECTORY_PART, 1025);
     same("a directory", ANAQSIRO_DIRECTORY_LENGTH, 3075);
@@ -169,6 +172,140 @@ static void test_wrong_markers(void) {
         same("of a filter", number_of(ANAQSIRO_FILTER, 1, 1, ANAQSIRO_ALL + marker), ANAQSIRO_FORM);
     }
     same("both", number_of(ANAQSIRO_MEMBERSHIP, 1, 1, anaqsiro_mask("RXN")), ANAQSIRO_FORM);
+}
+
+/* The bytes of a wide message with both halves, and with one: the lists of an absent half begin where they would be. */
+static void test_wide_bytes(void) {
+    const struct anaqsiro_wide_half before = {{0x102, 0x304}, 2, {5}, 1, 6}, now = {{7}, 1, {8, 9, 0x3FF}, 3, 0x88};
+    const uint8_t both[] = {2, 3, 2, 1, 1, 3, 6, 0x88, 16, 0, 20, 0, 22, 0, 24, 0, 2, 1, 4, 3, 5, 0, 7, 0, 8, 0, 9, 0, 0xFF, 3};
+    const uint8_t first[] = {2, 2, 0, 0, 1, 3, 0, 0x88, 16, 0, 16, 0, 16, 0, 18, 0, 7, 0, 8, 0, 9, 0, 0xFF, 3};
+    const uint8_t last[] = {2, 1, 2, 1, 0, 0, 6, 0, 16, 0, 20, 0, 22, 0, 22, 0, 2, 1, 4, 3, 5, 0};
+    uint8_t message[ANAQSIRO_WIDE_MAX];
+    same("both halves", anaqsiro_put_wide(message, ANAQSIRO_PERMISSION, &before, &now), sizeof both);
+    same("their bytes", memcmp(message, both, sizeof both) == 0, 1);
+    same("a new half", anaqsiro_put_wide(message, ANAQSIRO_PERMISSION, NULL, &now), sizeof first);
+    same("its bytes", memcmp(message, first, sizeof first) == 0, 1);
+    same("a previous half", anaqsiro_put_wide(message, ANAQSIRO_PERMISSION, &before, NULL), sizeof last);
+    same("its bytes", memcmp(message, last, sizeof last) == 0, 1);
+}
+
+/* A half with so many keys and ids, up to the greatest names. */
+static struct anaqsiro_wide_half wide_half(uint64_t keys, uint64_t ids, uint64_t mask) {
+    struct anaqsiro_wide_half half = {{0}, 0, {0}, 0, 0};
+    half.how_many_keys = keys;
+    half.how_many_ids = ids;
+    half.mask = mask;
+    for (uint64_t i = 0; i < ANAQSIRO_LIST_MAX; i++) {
+        half.keys[i] = i < keys ? ANAQSIRO_NAMES - keys + i : 0;
+        half.ids[i] = i < ids ? 2 * i : 0;
+    }
+    return half;
+}
+
+/* Each length of each list, and each marker: what is read from the message is what it was made of. */
+static void test_wide_halves(void) {
+    static const uint64_t masks[] = {5, 5 + ANAQSIRO_X, 5 + ANAQSIRO_N, 5 + ANAQSIRO_X + ANAQSIRO_N};
+    static const unsigned bits[] = {0, ANAQSIRO_X_NEW, ANAQSIRO_N_NEW, 0x30};
+    const struct anaqsiro_wide_half absent = {{0}, 0, {0}, 0, 0};
+    uint8_t message[ANAQSIRO_WIDE_MAX];
+    for (uint64_t keys = 1; keys <= ANAQSIRO_LIST_MAX; keys++) {
+        for (uint64_t ids = 1; ids <= ANAQSIRO_LIST_MAX; ids++) {
+            const uint64_t before_marked = keys % 4, now_marked = ids % 4;
+            const struct anaqsiro_wide_half before = wide_half(keys, ids, masks[before_marked]),
+                                            now = wide_half(ids, keys, masks[now_marked]);
+            const size_t length = anaqsiro_put_wide(message, ANAQSIRO_MEMBERSHIP, &before, &now);
+            struct anaqsiro_wide_half got = anaqsiro_get_wide_half(message, length, ANAQSIRO_WIDE_PREVIOUS);
+            same("length", length, ANAQSIRO_WIDE_HEADER + 4 * (keys + ids));
+            same("previous half", memcmp(&got, &before, sizeof got) == 0, 1);
+            got = anaqsiro_get_wide_half(message, length, ANAQSIRO_WIDE_NEW);
+            same("new half", memcmp(&got, &now, sizeof got) == 0, 1);
+            same("first byte", message[0], 1u + 4u * bits[before_marked] + bits[now_marked]);
+            got = anaqsiro_get_wide_half(message, length - 1, ANAQSIRO_WIDE_NEW);
+            same("cut short", got.how_many_ids, 0);
+            anaqsiro_put_wide(message, ANAQSIRO_MEMBERSHIP, &before, NULL);
+            got = anaqsiro_get_wide_half(message, length, ANAQSIRO_WIDE_NEW);
+            same("no new half", memcmp(&got, &absent, sizeof got) == 0, 1);
+        }
+    }
+    const struct anaqsiro_wide_half got = anaqsiro_get_wide_half(message, ANAQSIRO_MESSAGE, ANAQSIRO_WIDE_PREVIOUS);
+    same("too few bytes", memcmp(&got, &absent, sizeof got) == 0, 1);
+}
+
+/* A half of a message, and that of a wide one with the same key and id, are the same. */
+static void test_widened(void) {
+    const struct anaqsiro_half half = {0x102, 0x304, 5 + ANAQSIRO_N};
+    const struct anaqsiro_wide_half wide = {{0x102}, 1, {0x304}, 1, 5 + ANAQSIRO_N}, absent = {{0}, 0, {0}, 0, 0};
+    uint8_t message[ANAQSIRO_MESSAGE], wide_message[ANAQSIRO_WIDE_MAX];
+    anaqsiro_put_message(message, ANAQSIRO_MEMBERSHIP, &half, NULL);
+    const size_t length = anaqsiro_put_wide(wide_message, ANAQSIRO_MEMBERSHIP, &wide, NULL);
+    const struct anaqsiro_wide_half previous = anaqsiro_widened(anaqsiro_get_half(message, ANAQSIRO_PREVIOUS_AT)),
+                                    none_new = anaqsiro_widened(anaqsiro_get_half(message, ANAQSIRO_NEW_AT)),
+                                    got = anaqsiro_get_wide_half(wide_message, length, ANAQSIRO_WIDE_PREVIOUS);
+    same("widened", memcmp(&previous, &got, sizeof got) == 0, 1);
+    same("what it was made of", memcmp(&wide, &got, sizeof got) == 0, 1);
+    same("an absent half", memcmp(&none_new, &absent, sizeof absent) == 0, 1);
+}
+
+/* The number that a block with room for one record gives for a wide message with this new half. No byte is written behind it. */
+static uint32_t wide_number_of(uint64_t kind, const struct anaqsiro_wide_half *half) {
+    uint8_t block[ANAQSIRO_BLOCK_MIN + ANAQSIRO_RECORD], message[ANAQSIRO_WIDE_MAX + 1];
+    memset(message, 0xA5, sizeof message);
+    anaqsiro_make(block, sizeof block);
+    const size_t length = anaqsiro_put_wide(message, kind, half, half);
+    same("not longer", length <= ANAQSIRO_WIDE_MAX, 1);
+    same("behind the longest", message[ANAQSIRO_WIDE_MAX], 0xA5);
+    const size_t one_half = anaqsiro_put_wide(message, kind, NULL, half);
+    return anaqsiro_number(anaqsiro_wide(block, sizeof block, message, one_half));
+}
+
+/* The same of one key and one id. */
+static uint32_t wide_number_of_pair(uint64_t kind, uint64_t key, uint64_t id, uint64_t mask) {
+    const struct anaqsiro_wide_half half = {{key}, 1, {id}, 1, mask};
+    return wide_number_of(kind, &half);
+}
+
+/* Lists of each length that there can be, and of some that there can not; and names that do not rise. */
+static void test_wrong_lists(void) {
+    static const uint64_t lengths[] = {0, 1, 2, 8, 9, 255, 256, 257, ((uint64_t)1 << 32) + 1, UINT64_MAX};
+    const size_t how_many = sizeof lengths / sizeof *lengths;
+    for (size_t pair = 0; pair < how_many * how_many; pair++) {
+        const uint64_t keys = lengths[pair / how_many], ids = lengths[pair % how_many];
+        const int good = keys >= 1 && keys <= ANAQSIRO_LIST_MAX && ids >= 1 && ids <= ANAQSIRO_LIST_MAX;
+        const uint32_t room = keys * ids == 1 ? ANAQSIRO_ACCEPTED : ANAQSIRO_NO_ROOM;
+        const struct anaqsiro_wide_half half = {{1, 2, 3, 4, 5, 6, 7, 8}, keys, {0, 2, 4, 6, 8, 10, 12, 1023}, ids, 1};
+        same("a list", wide_number_of(ANAQSIRO_PERMISSION, &half), good ? room : (uint32_t)ANAQSIRO_FORM);
+    }
+    const struct anaqsiro_wide_half falling = {{2, 1}, 2, {1}, 1, 1}, twice = {{1}, 1, {3, 3}, 2, 1};
+    const struct anaqsiro_wide_half last = {{1, 2, 3, 5, 4}, 5, {1}, 1, 1}, above = {{1, 1024}, 2, {1}, 1, 1};
+    same("falling", wide_number_of(ANAQSIRO_PERMISSION, &falling), ANAQSIRO_FORM);
+    same("twice", wide_number_of(ANAQSIRO_PERMISSION, &twice), ANAQSIRO_FORM);
+    same("the last two", wide_number_of(ANAQSIRO_PERMISSION, &last), ANAQSIRO_FORM);
+    same("no name", wide_number_of(ANAQSIRO_PERMISSION, &above), ANAQSIRO_NAME);
+}
+
+/* A wide message of one pair is refused with what the plain one is refused with, whatever its numbers. */
+static void test_one_pair(void) {
+    static const uint64_t numbers[] = {0, 1, 2, 3, 4, 15, 16, 17, 255, 256, 257, 511, 512, 768, 1023, 1024, 65536, UINT64_MAX};
+    const size_t how_many = sizeof numbers / sizeof *numbers;
+    for (size_t pair = 0; pair < how_many * how_many; pair++) {
+        const uint64_t one = numbers[pair / how_many], other = numbers[pair % how_many];
+        same("key and id", wide_number_of_pair(ANAQSIRO_FILTER, one, other, 1), number_of(ANAQSIRO_FILTER, one, other, 1));
+        same("kind and mask", wide_number_of_pair(one, 1, 2, other), number_of(one, 1, 2, other));
+    }
+}
+
+/* A plain message is no wide one, and a wide one is no plain one. */
+static void test_other_call(void) {
+    const struct anaqsiro_half half = {1, 2, 1};
+    const struct anaqsiro_wide_half wide = {{1}, 1, {2}, 1, 1};
+    uint8_t block[ANAQSIRO_BLOCK_MIN + ANAQSIRO_RECORD], message[ANAQSIRO_WIDE_MAX];
+    anaqsiro_make(block, sizeof block);
+    anaqsiro_put_message(message, ANAQSIRO_PERMISSION, NULL, &half);
+    same("a plain one", anaqsiro_number(anaqsiro_wide(block, sizeof block, message, ANAQSIRO_MESSAGE)), ANAQSIRO_FORM);
+    const size_t length = anaqsiro_put_wide(message, ANAQSIRO_PERMISSION, NULL, &wide);
+    same("a wide one", anaqsiro_number(anaqsiro_message(block, sizeof block, message, length)), ANAQSIRO_FORM);
+    same("no bytes", anaqsiro_number(anaqsiro_wide(block, sizeof block, NULL, 0)), ANAQSIRO_FORM);
+    same("neither was applied", anaqsiro_size(block, sizeof block, ANAQSIRO_PERMISSION), 0);
 }
 
 /* The longest set, a record for each name and each letter at a count of five digits, is read from its text and written out. */
@@ -347,6 +484,27 @@ static uint64_t call_message(struct directed *one, uint16_t *by, size_t len, siz
                       : anaqsiro_message_by(one->block, len, by, by_len, message, sizeof message);
 }
 
+/* A wide message that takes a letter of both permissions away, after which one record is gone, and adds so many pairs. */
+static uint64_t call_pairs(struct directed *one, uint16_t *by, size_t len, size_t by_len, uint64_t pairs) {
+    const struct anaqsiro_wide_half taken = {{KEY}, 1, {3, 1023}, 2, ANAQSIRO_READ}, given = {{4, 5, 6}, pairs, {8}, 1, 7};
+    uint8_t message[ANAQSIRO_WIDE_MAX];
+    const size_t length = anaqsiro_put_wide(message, ANAQSIRO_PERMISSION, &taken, &given);
+    return by == none ? anaqsiro_wide(one->block, len, message, length)
+                      : anaqsiro_wide_by(one->block, len, by, by_len, message, length);
+}
+
+static uint64_t call_wide(struct directed *one, uint16_t *by, size_t len, size_t by_len) {
+    return call_pairs(one, by, len, by_len, 2);
+}
+
+static uint64_t call_one_pair_too_many(struct directed *one, uint16_t *by, size_t len, size_t by_len) {
+    return call_pairs(one, by, len, by_len, 3);
+}
+
+static uint64_t call_no_pairs(struct directed *one, uint16_t *by, size_t len, size_t by_len) {
+    return call_pairs(one, by, len, by_len, 0);
+}
+
 static uint64_t call_read(struct directed *one, uint16_t *by, size_t len, size_t by_len) {
     return by == none ? anaqsiro_read(one->block, len, ANAQSIRO_FILTER, KEY, set, 4)
                       : anaqsiro_read_by(one->block, len, by, by_len, ANAQSIRO_FILTER, KEY, set, 4);
@@ -391,6 +549,9 @@ struct called {
 
 static const struct called calls[] = {
     {"a message", call_message, 0},
+    {"a wide message", call_wide, 0},
+    {"a wide message without room", call_one_pair_too_many, (uint64_t)ANAQSIRO_NO_ROOM << 32},
+    {"an empty list", call_no_pairs, (uint64_t)ANAQSIRO_FORM << 32},
     {"a read", call_read, 1},
     {"a read without room", call_too_much, (uint64_t)ANAQSIRO_NO_ROOM << 32},
     {"a wrong text", call_wrong_text, ((uint64_t)ANAQSIRO_TEXT << 32) + 5},
@@ -486,6 +647,12 @@ int main(void) {
     test_markers();
     test_wide_numbers();
     test_wrong_markers();
+    test_wide_bytes();
+    test_wide_halves();
+    test_widened();
+    test_wrong_lists();
+    test_one_pair();
+    test_other_call();
     test_longest_text();
     test_places();
     test_parts();

@@ -1,8 +1,9 @@
 /* How many bytes of stack each call takes: it is made on a stack of our own that was painted beforehand, and the deepest byte
  * that lost its paint is looked for. The blocks are such that each call goes as deep as it can: a chain of 40 records for the
- * questions, with X in the one that a chain may end with, a count of five digits for the text, for the message one that inserts
- * and one that puts a half back. The calls by a directory are made on the same blocks. It fails where a call takes more than
- * LIMIT, or gives another number than it is to: a call that is refused too early takes little. */
+ * questions, with X in the one that a chain may end with, a count of five digits for the text, for the messages one that inserts
+ * and one that puts back what it took, with 64 pairs in a half of the wide ones. The calls by a directory are made on the same
+ * blocks. It fails where a call takes more than LIMIT, or gives another number than it is to: a call that is refused too early
+ * takes little. */
 #define _GNU_SOURCE
 #include "anaqsiro.h"
 
@@ -13,12 +14,13 @@
 #define PAINT 0xA5u
 #define CHAIN 40u
 #define LAST 32u
+#define PAIRS (ANAQSIRO_LIST_MAX * ANAQSIRO_LIST_MAX)
 #define LIMIT (24u * 1024u)
 
 enum { KEY = 900, FAR = 1000 };
 
 static uint8_t stack[1u << 18];
-static uint8_t block[ANAQSIRO_BLOCK_MIN + (CHAIN + 4) * ANAQSIRO_RECORD];
+static uint8_t block[ANAQSIRO_BLOCK_MIN + (CHAIN + 4 + PAIRS) * ANAQSIRO_RECORD];
 static uint16_t directory[ANAQSIRO_DIRECTORY_LENGTH];
 static uint8_t out[4096];
 static const uint8_t text[] = "1;M65535R2;7;MRUPmrup65535";
@@ -28,6 +30,8 @@ static uint64_t (*call)(void);
 static size_t depth, deepest;
 static unsigned failures;
 static uint8_t update[ANAQSIRO_MESSAGE];
+static uint8_t wide_update[ANAQSIRO_WIDE_MAX];
+static size_t wide_length;
 
 static void add(uint64_t kind, uint64_t key, uint64_t id, uint64_t mask) {
     const struct anaqsiro_half half = {key, id, mask};
@@ -42,8 +46,17 @@ static void put_update(uint64_t key, uint64_t id, uint64_t mask, uint64_t far) {
     anaqsiro_put_message(update, ANAQSIRO_MEMBERSHIP, &previous, &moved);
 }
 
+/* The wide message that is measured: it adds letters to 64 filters, and first takes some away from 64 that are there, if any. */
+static void put_wide_update(uint64_t taken, uint64_t added, uint64_t far) {
+    struct anaqsiro_wide_half previous = {{1, 2, 3, 4, 5, 6, 7, 8}, 8, {1, 2, 3, 4, 5, 6, 7, 8}, 8, taken}, more = previous;
+    more.mask = added;
+    more.keys[ANAQSIRO_LIST_MAX - 1] = far;
+    wide_length = anaqsiro_put_wide(wide_update, ANAQSIRO_FILTER, taken == 0 ? NULL : &previous, &more);
+}
+
 static uint64_t call_make(void) { return anaqsiro_make(block, sizeof block); }
 static uint64_t call_message(void) { return anaqsiro_message(block, sizeof block, update, sizeof update); }
+static uint64_t call_wide(void) { return anaqsiro_wide(block, sizeof block, wide_update, wide_length); }
 static uint64_t call_rights(void) { return anaqsiro_rights(block, sizeof block, 1, 1, ANAQSIRO_ALL); }
 static uint64_t call_may(void) { return anaqsiro_may(block, sizeof block, 1, 1, ANAQSIRO_CREATE); }
 static uint64_t call_write(void) { return anaqsiro_write(block, sizeof block, ANAQSIRO_PERMISSION, KEY, out, sizeof out); }
@@ -53,6 +66,9 @@ static uint64_t call_read(void) {
 static uint64_t call_directory(void) { return anaqsiro_directory(block, sizeof block, directory, ANAQSIRO_DIRECTORY_LENGTH); }
 static uint64_t call_message_by(void) {
     return anaqsiro_message_by(block, sizeof block, directory, ANAQSIRO_DIRECTORY_LENGTH, update, sizeof update);
+}
+static uint64_t call_wide_by(void) {
+    return anaqsiro_wide_by(block, sizeof block, directory, ANAQSIRO_DIRECTORY_LENGTH, wide_update, wide_length);
 }
 static uint64_t call_rights_by(void) {
     return anaqsiro_rights_by(block, sizeof block, directory, ANAQSIRO_DIRECTORY_LENGTH, 1, 1, ANAQSIRO_ALL);
@@ -109,15 +125,15 @@ static void measure(const struct named *what, uint32_t number) {
     }
 }
 
-/* The calls of the rules on a block that is there, without a directory and by one; the message is the first. */
-enum { CALLS = 5 };
+/* The calls of the rules on a block that is there, without a directory and by one; the message and the wide one are the first. */
+enum { CALLS = 6 };
 static const struct named without[CALLS] = {
-    {"anaqsiro_message", call_message}, {"anaqsiro_read", call_read}, {"anaqsiro_write", call_write},
-    {"anaqsiro_rights", call_rights},   {"anaqsiro_may", call_may},
+    {"anaqsiro_message", call_message}, {"anaqsiro_wide", call_wide},     {"anaqsiro_read", call_read},
+    {"anaqsiro_write", call_write},     {"anaqsiro_rights", call_rights}, {"anaqsiro_may", call_may},
 };
 static const struct named by[CALLS] = {
-    {"anaqsiro_message_by", call_message_by}, {"anaqsiro_read_by", call_read_by}, {"anaqsiro_write_by", call_write_by},
-    {"anaqsiro_rights_by", call_rights_by},   {"anaqsiro_may_by", call_may_by},
+    {"anaqsiro_message_by", call_message_by}, {"anaqsiro_wide_by", call_wide_by},     {"anaqsiro_read_by", call_read_by},
+    {"anaqsiro_write_by", call_write_by},     {"anaqsiro_rights_by", call_rights_by}, {"anaqsiro_may_by", call_may_by},
 };
 
 /* The other calls, on the block that those leave. */
@@ -136,15 +152,18 @@ static void make_chain(void) {
     call_directory();
 }
 
-/* The first message inserts a record. The last one finds the block full, and puts back what it took. */
+/* The first messages insert records. The last ones find the block full, and put back what they took. */
 static void measure_rules(const struct named *calls) {
     make_chain();
     put_update(1, 2, ANAQSIRO_CREATE, FAR);
+    put_wide_update(0, ANAQSIRO_ALL, 8);
     for (size_t i = 0; i < CALLS; i++) {
         measure(&calls[i], ANAQSIRO_ACCEPTED);
     }
     put_update(2, 3, ANAQSIRO_READ, FAR + 1);
     measure(&calls[0], ANAQSIRO_NO_ROOM);
+    put_wide_update(ANAQSIRO_READ, ANAQSIRO_READ, FAR);
+    measure(&calls[1], ANAQSIRO_NO_ROOM);
 }
 
 int main(void) {

@@ -16,11 +16,11 @@
  *   gives, whose value may be a place.
  * - DENIALS DO NOT REACH ACROSS RECORDS. "No read" takes read out of the one permission record that it stands in; another one
  *   may still give it, to a group of the same user or on a group of the same object.
- * - A BLOCK OF 0.4 OR BEFORE IS NOT ONE OF 0.5. Its records have 20 bytes and these 24. It is refused with 2, unless it has no
- *   record. Take it over by the texts of its sets.
- * - A CHANGE WITHOUT THE DIRECTORY LEAVES IT BEHIND. Who keeps one changes the block by anaqsiro_message_by and
- *   anaqsiro_read_by, or makes it again after other changes. Where such a change left some key with more or fewer records than
- *   it had, calls by the directory are refused with 13 until it is made again.
+ * - A BLOCK OF 0.4 OR BEFORE IS NOT ONE OF 0.5 OR AFTER. Its records have 20 bytes and these 24. It is refused with 2, unless it
+ *   has no record. Take it over by the texts of its sets.
+ * - A CHANGE WITHOUT THE DIRECTORY LEAVES IT BEHIND. Who keeps one changes the block by anaqsiro_message_by, anaqsiro_wide_by
+ *   and anaqsiro_read_by, or makes it again after other changes. Where such a change left some key with more or fewer records
+ *   than it had, calls by the directory are refused with 13 until it is made again.
  *
  * No call keeps anything between calls, allocates, or touches memory other than the bytes it is lent and its own stack. So
  * several threads may call at once, as long as no block or buffer that one of them writes is used by another. Two buffers of
@@ -40,10 +40,11 @@ extern "C" {
 
 /* The version of this header and its archive. The block's format is part of it: as long as the first two numbers are the same,
  * a block, a message or a text of one version is good for the other and means the same there, and every call is made and
- * answers as before. Where any of this changes, the second number rises; where something is only added, the third. */
-#define ANAQSIRO_VERSION "0.5.0"
+ * answers as before. Where any of this changes, or a program over the Rust crate has to, the second number rises; where
+ * something is only added, the third. What is here of 0.6 only adds to 0.5: a host in C or C++ needs no change. */
+#define ANAQSIRO_VERSION "0.6.0"
 #define ANAQSIRO_VERSION_MAJOR 0
-#define ANAQSIRO_VERSION_MINOR 5
+#define ANAQSIRO_VERSION_MINOR 6
 #define ANAQSIRO_VERSION_PATCH 0
 
 /* ---- numbers of the rules */
@@ -83,6 +84,21 @@ extern "C" {
 #define ANAQSIRO_MESSAGE (ANAQSIRO_NEW_AT + ANAQSIRO_HALF)
 #define ANAQSIRO_HAS_PREVIOUS 1u
 #define ANAQSIRO_HAS_NEW 2u
+
+/* A wide message: a header of 16 bytes, then four lists of names, the previous keys and ids, the new keys and ids, 16 bits a
+ * name, low byte first. The header has kind and flags as a message has them, the length of each list at the first of these
+ * places, the mask of each half at the second, and from the third on the byte, 16 bits wide, where each list begins. Each list
+ * begins where the one before ends. An absent half has lengths and mask zero. No list is longer than so many names, so no wide
+ * message is longer than so many bytes. The halves are numbered. anaqsiro_put_wide writes a wide message, anaqsiro_get_kind and
+ * anaqsiro_get_wide_half read it. */
+#define ANAQSIRO_WIDE_LENGTHS_AT 2u
+#define ANAQSIRO_WIDE_MASKS_AT 6u
+#define ANAQSIRO_WIDE_STARTS_AT 8u
+#define ANAQSIRO_WIDE_HEADER 16u
+#define ANAQSIRO_LIST_MAX 8u
+#define ANAQSIRO_WIDE_MAX (ANAQSIRO_WIDE_HEADER + 4u * ANAQSIRO_LIST_MAX * 2u)
+#define ANAQSIRO_WIDE_PREVIOUS 0u
+#define ANAQSIRO_WIDE_NEW 1u
 
 /* The longest text of a set, 54,185 bytes, with no zero byte at its end. That set has a permission record for each name as its
  * id, and in each record all eight letters at a count of five digits. Its bytes are
@@ -155,6 +171,13 @@ uint64_t anaqsiro_make(uint8_t *block, size_t len);
 /* Applies a message to the block: takes its previous half away, then adds the new one. Numbers 0 to 8. Value 0. */
 uint64_t anaqsiro_message(uint8_t *block, size_t len, const uint8_t *message, size_t message_len);
 
+/* Applies a wide message, which stands for every pair of a key and an id in each half: takes all pairs of its previous half
+ * away, then adds all of the new one, pairs by key then id, each as a message would. It is applied as a whole: where a pair is
+ * refused, nothing has changed, and the number, 6, 7 or 8, is that of the first such pair. Before them 3 is for the header, the
+ * length and the lists, whose names rise strictly, 4 for all names, 5 for both masks. A message of 12 bytes is no wide one, and
+ * is refused with 3, as a wide one is by anaqsiro_message. Numbers 0 to 8. Value 0. */
+uint64_t anaqsiro_wide(uint8_t *block, size_t len, const uint8_t *message, size_t message_len);
+
 /* The rights that the user holds on the object, of those requested, and the number of membership records examined, one for the
  * user's side and one for the object's. A name's mark in round n is the set of rights that some chain of at most n records
  * carries to it; in round 0 the start, which is the user or the object, has all four, the others none, and before round 0
@@ -182,7 +205,8 @@ uint64_t anaqsiro_read(uint8_t *block, size_t len, uint64_t kind, uint64_t key, 
 /* ---- the calls by a directory
  *
  * A directory says where the records of each key begin, so that a question need not search the block for them. Messages and
- * sets by it search as before: anaqsiro_message_by, anaqsiro_read_by and anaqsiro_write_by test it, and the first two renew it.
+ * sets by it search as before: anaqsiro_message_by, anaqsiro_wide_by, anaqsiro_read_by and anaqsiro_write_by test it, and the
+ * first three renew it.
  * The host lends it beside the block: an array of ANAQSIRO_DIRECTORY_LENGTH entries, each a uint16_t, aligned as those are. It
  * has a part for the memberships, then one for the permissions, then one for the filters. The entry at x of a part is where
  * that kind's records with the key x begin, or would begin if there were any, in bytes from the front of the block; the last
@@ -191,9 +215,10 @@ uint64_t anaqsiro_read(uint8_t *block, size_t len, uint64_t kind, uint64_t key, 
  * - It belongs to one block. The block's own directory is the one that anaqsiro_directory would make of it as it stands.
  * - Each call by it tests all of it: one of another length, or with any other entry, is refused with 13, right after 1 and 2 of
  *   the block. So a wrong directory gives no wrong answer.
- * - anaqsiro_message_by and anaqsiro_read_by change it with the block. The other calls by it only read it.
- * - A call without it does not know it. After an anaqsiro_make, anaqsiro_message or anaqsiro_read that left some key with more
- *   or fewer records than it had, the directory is no longer the block's own, and calls by it are refused until it is made again.
+ * - anaqsiro_message_by, anaqsiro_wide_by and anaqsiro_read_by change it with the block. The other calls by it only read it.
+ * - A call without it does not know it. After an anaqsiro_make, anaqsiro_message, anaqsiro_wide or anaqsiro_read that left some
+ *   key with more or fewer records than it had, the directory is no longer the block's own, and calls by it are refused until it
+ *   is made again.
  * - No answer needs it. It is for hosts that ask much of large blocks; others do without. */
 
 /* Writes the block's own directory, whatever stood there before. Numbers 0, 1, 2, 13, which is for its length alone. Value 0. */
@@ -203,6 +228,11 @@ uint64_t anaqsiro_directory(const uint8_t *block, size_t len, uint16_t *director
  * Value 0. */
 uint64_t anaqsiro_message_by(uint8_t *block, size_t len, uint16_t *directory, size_t directory_len, const uint8_t *message,
                              size_t message_len);
+
+/* Applies a wide message as anaqsiro_wide does, and makes the directory the changed block's own. Numbers 0, 1, 2, 13, 3 to 8.
+ * Value 0. */
+uint64_t anaqsiro_wide_by(uint8_t *block, size_t len, uint16_t *directory, size_t directory_len, const uint8_t *message,
+                          size_t message_len);
 
 /* What anaqsiro_rights answers. Numbers 0, 1, 2, 13, 4, 5. Value: as there, and taken apart in the same way. */
 uint64_t anaqsiro_rights_by(const uint8_t *block, size_t len, const uint16_t *directory, size_t directory_len, uint64_t user,
@@ -273,7 +303,9 @@ static inline const char *anaqsiro_refusal_text(uint64_t number) {
     case ANAQSIRO_ACCEPTED: return "accepted";
     case ANAQSIRO_BLOCK_LENGTH: return "block length not 16 to 49,168";
     case ANAQSIRO_BLOCK_NOT_GOOD: return "block not good";
-    case ANAQSIRO_FORM: return "message not 12 bytes, or kind, flags, a marker or an absent half wrong; kind not 1 to 3";
+    case ANAQSIRO_FORM:
+        return "message not 12 bytes, or kind, flags, a marker or an absent half wrong; "
+               "a wide message's header, length or list wrong; kind not 1 to 3";
     case ANAQSIRO_NAME: return "a name above 1023, given by the caller or in a present half";
     case ANAQSIRO_MASK: return "request 0 or above 15; a present half's mask 0, or above 15 for M or F";
     case ANAQSIRO_NOTHING_TO_TAKE: return "a letter or marker of the previous half has count 0 or no record";
@@ -342,44 +374,151 @@ static inline void anaqsiro_put_name(uint8_t *at, uint64_t name) {
     at[1] = (uint8_t)(fits >> 8);
 }
 
+/* A mask as a message has it: one with bits that stand for no letter becomes 0, which no mask is. */
+static inline uint32_t anaqsiro_fitting_mask(uint64_t mask) { return mask >> ANAQSIRO_LETTERS != 0 ? 0u : (uint32_t)mask; }
+
 /* Writes a half to its ANAQSIRO_HALF bytes, and gives its markers, which stand elsewhere: X as 1, N as 2. A null pointer stands
- * for an absent half. A mask with bits that stand for no letter becomes 0, which no mask is. */
+ * for an absent half. */
 static inline uint32_t anaqsiro_put_half(uint8_t *at, const struct anaqsiro_half *half) {
     const struct anaqsiro_half absent = {0, 0, 0};
     const struct anaqsiro_half *written = half == NULL ? &absent : half;
-    const uint32_t mask = written->mask >> ANAQSIRO_LETTERS != 0 ? 0u : (uint32_t)written->mask;
+    const uint32_t mask = anaqsiro_fitting_mask(written->mask);
     anaqsiro_put_name(at, written->key);
     anaqsiro_put_name(at + 2, written->id);
     at[4] = (uint8_t)(mask & 0xFFu);
     return mask / ANAQSIRO_X;
 }
 
+/* Writes the first two bytes of a message, plain or wide: the kind with the markers of both halves, and which of them are
+ * there. A kind that four bits do not hold becomes 0, which no kind is. */
+static inline void anaqsiro_put_front(uint8_t *message, uint64_t kind, uint32_t taken, uint32_t added, int has_previous,
+                                      int has_new) {
+    const uint32_t fits = (uint32_t)(kind > ANAQSIRO_KIND_BITS ? 0u : kind);
+    message[0] = (uint8_t)(fits | taken * ANAQSIRO_X_PREVIOUS | added * ANAQSIRO_X_NEW);
+    message[1] = (uint8_t)((has_previous ? ANAQSIRO_HAS_PREVIOUS : 0u) | (has_new ? ANAQSIRO_HAS_NEW : 0u));
+}
+
 /* Writes a message to its ANAQSIRO_MESSAGE bytes: what the statement said before, and what it says now. A null pointer stands
  * for an absent half: no previous half where the statement is new, no new half where it is withdrawn. The markers come from the
- * masks alone: a kind that four bits do not hold becomes 0, which no kind is. Whatever is wrong with a number here,
- * anaqsiro_message refuses by the number of the rules: 3, 4 or 5. */
+ * masks alone. Whatever is wrong with a number here, anaqsiro_message refuses by the number of the rules: 3, 4 or 5. */
 static inline void anaqsiro_put_message(uint8_t *message, uint64_t kind, const struct anaqsiro_half *previous,
                                         const struct anaqsiro_half *new_half) {
     const uint32_t taken = anaqsiro_put_half(message + ANAQSIRO_PREVIOUS_AT, previous);
     const uint32_t added = anaqsiro_put_half(message + ANAQSIRO_NEW_AT, new_half);
-    const uint32_t fits = (uint32_t)(kind > ANAQSIRO_KIND_BITS ? 0u : kind);
-    message[0] = (uint8_t)(fits | taken * ANAQSIRO_X_PREVIOUS | added * ANAQSIRO_X_NEW);
-    message[1] = (uint8_t)((previous != NULL ? ANAQSIRO_HAS_PREVIOUS : 0u) | (new_half != NULL ? ANAQSIRO_HAS_NEW : 0u));
+    anaqsiro_put_front(message, kind, taken, added, previous != NULL, new_half != NULL);
+}
+
+/* ---- a wide message put together */
+
+/* One half of a wide message: its keys and its ids, each with how many there are, and the letters of every pair of a key and an
+ * id, with a marker or without. The names of each list rise strictly. So the three keys 20, 21, 22 and the two ids 1, 2 are
+ *   const struct anaqsiro_wide_half half = {{20, 21, 22}, 3, {1, 2}, 2, ANAQSIRO_UPDATE};
+ * All of it is what a statement leaves and has to quote. A half of a message is one with one key and one id. */
+struct anaqsiro_wide_half {
+    uint64_t keys[ANAQSIRO_LIST_MAX];
+    uint64_t how_many_keys;
+    uint64_t ids[ANAQSIRO_LIST_MAX];
+    uint64_t how_many_ids;
+    uint64_t mask;
+};
+
+/* Writes a list of a wide message by its number, 0 to 3, to the place where it begins, and gives where it ends. Of a list that
+ * is too long no name is read or written, and its length becomes 9, which no length is. */
+static inline size_t anaqsiro_put_list(uint8_t *message, size_t number, size_t begins, const uint64_t *names, uint64_t how_many) {
+    const size_t written = how_many > ANAQSIRO_LIST_MAX ? 0u : (size_t)how_many;
+    message[ANAQSIRO_WIDE_LENGTHS_AT + number] = (uint8_t)(how_many > ANAQSIRO_LIST_MAX ? ANAQSIRO_LIST_MAX + 1u : how_many);
+    anaqsiro_put_name(message + ANAQSIRO_WIDE_STARTS_AT + 2u * number, begins);
+    for (size_t i = 0; i < written; i++) {
+        anaqsiro_put_name(message + begins + 2u * i, names[i]);
+    }
+    return begins + 2u * written;
+}
+
+/* Writes a half of a wide message by its number, its lists from the place where the first begins, and gives where the last
+ * ends. A null pointer stands for an absent half. A mask with bits that stand for no letter becomes 0, which no mask is. */
+static inline size_t anaqsiro_put_wide_half(uint8_t *message, size_t number, size_t begins,
+                                            const struct anaqsiro_wide_half *half) {
+    const struct anaqsiro_wide_half absent = {{0}, 0, {0}, 0, 0};
+    const struct anaqsiro_wide_half *written = half == NULL ? &absent : half;
+    const size_t ids_begin = anaqsiro_put_list(message, 2u * number, begins, written->keys, written->how_many_keys);
+    message[ANAQSIRO_WIDE_MASKS_AT + number] = (uint8_t)(anaqsiro_fitting_mask(written->mask) & 0xFFu);
+    return anaqsiro_put_list(message, 2u * number + 1u, ids_begin, written->ids, written->how_many_ids);
+}
+
+/* Writes a wide message to a buffer of ANAQSIRO_WIDE_MAX bytes, and gives how long it is: what the statement said before, and
+ * what it says now. A null pointer stands for an absent half. Whatever is wrong with a number, a list or a length here, nothing
+ * is written outside the buffer, and anaqsiro_wide refuses by the number of the rules: 3, 4 or 5; a list that is too long, or
+ * does not rise strictly, is 3. (Two names of one list that do not fit both become 65,535, so that it does not rise.) */
+static inline size_t anaqsiro_put_wide(uint8_t *message, uint64_t kind, const struct anaqsiro_wide_half *previous,
+                                       const struct anaqsiro_wide_half *new_half) {
+    const uint32_t taken = previous == NULL ? 0u : anaqsiro_fitting_mask(previous->mask) / ANAQSIRO_X;
+    const uint32_t added = new_half == NULL ? 0u : anaqsiro_fitting_mask(new_half->mask) / ANAQSIRO_X;
+    const size_t new_begins = anaqsiro_put_wide_half(message, ANAQSIRO_WIDE_PREVIOUS, ANAQSIRO_WIDE_HEADER, previous);
+    anaqsiro_put_front(message, kind, taken, added, previous != NULL, new_half != NULL);
+    return anaqsiro_put_wide_half(message, ANAQSIRO_WIDE_NEW, new_begins, new_half);
 }
 
 /* ---- a message read, for a host that keeps what its statements left */
 
-/* The kind of a message, without the markers. */
+/* The kind of a message, plain or wide, without the markers. */
 static inline uint32_t anaqsiro_get_kind(const uint8_t *message) { return message[0] & ANAQSIRO_KIND_BITS; }
+
+/* A name of two bytes, the low one first. */
+static inline uint64_t anaqsiro_get_name(const uint8_t *at) { return (uint64_t)at[0] | (uint64_t)at[1] << 8; }
+
+/* The markers of a half of a message, plain or wide, by the half's number, 0 for the previous one and 1 for the new: X as 1, N
+ * as 2. */
+static inline uint32_t anaqsiro_get_markers(const uint8_t *message, size_t number) {
+    return message[0] / (number == 0 ? ANAQSIRO_X_PREVIOUS : ANAQSIRO_X_NEW) & 3u;
+}
 
 /* A half of a message by its place, ANAQSIRO_PREVIOUS_AT or ANAQSIRO_NEW_AT, its mask with the marker. All numbers of an absent
  * half are 0 in a message that is not refused with 3. */
 static inline struct anaqsiro_half anaqsiro_get_half(const uint8_t *message, size_t at) {
-    const uint32_t markers = message[0] / (at == ANAQSIRO_PREVIOUS_AT ? ANAQSIRO_X_PREVIOUS : ANAQSIRO_X_NEW) & 3u;
+    const uint32_t markers = anaqsiro_get_markers(message, at == ANAQSIRO_PREVIOUS_AT ? 0u : 1u);
     struct anaqsiro_half half;
-    half.key = (uint64_t)message[at] | (uint64_t)message[at + 1] << 8;
-    half.id = (uint64_t)message[at + 2] | (uint64_t)message[at + 3] << 8;
+    half.key = anaqsiro_get_name(message + at);
+    half.id = anaqsiro_get_name(message + at + 2);
     half.mask = message[at + 4] | (uint64_t)markers * ANAQSIRO_X;
+    return half;
+}
+
+/* A half of a message as the wide half that says the same, of one key and one id; all numbers are 0 for an absent one. */
+static inline struct anaqsiro_wide_half anaqsiro_widened(struct anaqsiro_half half) {
+    const uint64_t how_many = half.mask == 0 ? 0u : 1u;
+    struct anaqsiro_wide_half wide = {{0}, 0, {0}, 0, 0};
+    wide.keys[0] = half.key;
+    wide.how_many_keys = how_many;
+    wide.ids[0] = half.id;
+    wide.how_many_ids = how_many;
+    wide.mask = half.mask;
+    return wide;
+}
+
+/* Reads a list of a wide message by its number, 0 to 3, into ANAQSIRO_LIST_MAX places, and gives how many names it has: none
+ * where it is too long, or not all of it stands in the message. */
+static inline uint64_t anaqsiro_get_list(const uint8_t *message, size_t message_len, size_t number, uint64_t *names) {
+    const size_t how_many = message[ANAQSIRO_WIDE_LENGTHS_AT + number];
+    const size_t begins = (size_t)anaqsiro_get_name(message + ANAQSIRO_WIDE_STARTS_AT + 2u * number);
+    if (how_many > ANAQSIRO_LIST_MAX || begins + 2u * how_many > message_len) {
+        return 0;
+    }
+    for (size_t i = 0; i < how_many; i++) {
+        names[i] = anaqsiro_get_name(message + begins + 2u * i);
+    }
+    return how_many;
+}
+
+/* A half of a wide message by its number, ANAQSIRO_WIDE_PREVIOUS or ANAQSIRO_WIDE_NEW, its mask with the marker. All numbers of
+ * an absent half are 0 in a message that is not refused with 3, and so are those of a list past its end: two halves are the
+ * same where memcmp says so. Bytes that are too few for a wide message give the same zeros. */
+static inline struct anaqsiro_wide_half anaqsiro_get_wide_half(const uint8_t *message, size_t message_len, size_t number) {
+    struct anaqsiro_wide_half half = {{0}, 0, {0}, 0, 0};
+    if (message_len >= ANAQSIRO_WIDE_HEADER) {
+        half.how_many_keys = anaqsiro_get_list(message, message_len, 2u * number, half.keys);
+        half.how_many_ids = anaqsiro_get_list(message, message_len, 2u * number + 1u, half.ids);
+        half.mask = message[ANAQSIRO_WIDE_MASKS_AT + number] | (uint64_t)anaqsiro_get_markers(message, number) * ANAQSIRO_X;
+    }
     return half;
 }
 
