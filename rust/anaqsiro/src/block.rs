@@ -116,6 +116,14 @@ impl Block {
         done(unsafe { raw::anaqsiro_message(self.bytes.as_mut_ptr(), self.bytes.len(), message.as_ptr(), message.len()) })
     }
 
+    /// Applies a [`WideMessage`](crate::WideMessage): takes all pairs of the previous half away, then adds all of the new one, by
+    /// key, then id. Where a pair is refused nothing has changed, and the refusal is that of the first such pair.
+    pub fn apply_wide(&mut self, message: impl AsRef<[u8]>) -> Result<(), Refusal> {
+        let message = message.as_ref();
+        // SAFETY: each pointer and length are those of one slice; the borrows keep the two apart.
+        done(unsafe { raw::anaqsiro_wide(self.bytes.as_mut_ptr(), self.bytes.len(), message.as_ptr(), message.len()) })
+    }
+
     /// The rights that the user holds on the object, of those requested, and how many membership records were examined on each
     /// side. A user whom a [`Marker`](crate::Marker) binds holds none on what is in some group and in none of hers.
     ///

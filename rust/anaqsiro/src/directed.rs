@@ -6,8 +6,8 @@ use crate::{raw, Block, Held, Kind, Name, Refusal, Rights, NAMES};
 use std::fmt;
 
 /// A block with its directory, so that a question need not search for the records of a key. Messages and sets by it search as
-/// before: [`DirectedBlock::apply`], [`DirectedBlock::read_set`] and [`DirectedBlock::write_set`] test it, and the first two
-/// renew it.
+/// before: [`DirectedBlock::apply`], [`DirectedBlock::apply_wide`], [`DirectedBlock::read_set`] and [`DirectedBlock::write_set`]
+/// test it, and the first three renew it.
 ///
 /// The directory has a part for the memberships, one for the permissions and one for the filters, [`DirectedBlock::PART`] entries
 /// each. The entry at `x` of a part is where that kind's records with the key `x` begin, or would begin if there were any, in
@@ -147,12 +147,12 @@ impl DirectedBlock {
 
     /// Applies a message, as [`Block::apply`] does.
     pub fn apply(&mut self, message: impl AsRef<[u8]>) -> Result<(), Refusal> {
-        let (block, directory, message) = (self.block.bytes_mut(), &mut self.directory, message.as_ref());
-        let (entries, length) = (directory.as_mut_ptr(), directory.len());
-        // SAFETY: each pointer and length are those of one slice; the borrows keep the three apart.
-        done(unsafe {
-            raw::anaqsiro_message_by(block.as_mut_ptr(), block.len(), entries, length, message.as_ptr(), message.len())
-        })
+        self.changed(raw::anaqsiro_message_by, message.as_ref())
+    }
+
+    /// Applies a wide message, as [`Block::apply_wide`] does.
+    pub fn apply_wide(&mut self, message: impl AsRef<[u8]>) -> Result<(), Refusal> {
+        self.changed(raw::anaqsiro_wide_by, message.as_ref())
     }
 
     /// The rights that the user holds on the object, as [`Block::rights`] answers.
@@ -190,6 +190,14 @@ impl DirectedBlock {
         })
     }
 
+    /// What comes of a message.
+    fn changed(&mut self, change: Change, message: &[u8]) -> Result<(), Refusal> {
+        let (block, directory) = (self.block.bytes_mut(), &mut self.directory);
+        let (entries, length) = (directory.as_mut_ptr(), directory.len());
+        // SAFETY: each pointer and length are those of one slice; the borrows keep the three apart.
+        done(unsafe { change(block.as_mut_ptr(), block.len(), entries, length, message.as_ptr(), message.len()) })
+    }
+
     /// What a question answers.
     fn asked(&self, question: Question, user: Name, object: Name, request: Rights) -> u64 {
         let (block, directory, request) = (self.block.bytes(), self.directory(), request.mask().into());
@@ -197,6 +205,9 @@ impl DirectedBlock {
         unsafe { question(block.as_ptr(), block.len(), directory.as_ptr(), directory.len(), user, object, request) }
     }
 }
+
+/// A call by a directory that applies a message, as C has it.
+type Change = unsafe extern "C" fn(*mut u8, usize, *mut u16, usize, *const u8, usize) -> u64;
 
 /// A question by a directory, as C has it.
 type Question = unsafe extern "C" fn(*const u8, usize, *const u16, usize, u64, u64, u64) -> u64;

@@ -1,6 +1,6 @@
 //! Statements: what each one left, and the turn of each of its messages.
 
-use crate::{Block, Half, Kind, Message, Name, Refusal};
+use crate::{Block, Half, Kind, Name, Refusal, Sent, WideHalf};
 use std::borrow::Borrow;
 use std::collections::BTreeMap;
 use std::fmt;
@@ -40,8 +40,30 @@ use std::fmt;
 ///
 /// The block begins empty, and each message that is applied quotes as its previous half just what its statement left. Then each
 /// count is the number of statements standing with that record and that letter, at every moment: that is proved of the library. A
-/// marker counts as a letter.
+/// marker counts as a letter, and a wide statement counts once in each of its pairs.
 /// And no message is refused with [`Refusal::NothingToTake`].
+///
+/// What is sent may be plain or wide, as it likes for each message of a statement: what a statement left is a list of pairs, and a
+/// plain half is the list of one.
+///
+/// ```
+/// use anaqsiro::{Half, Kind, Ledger, Rights, Sent, WideHalf};
+///
+/// let mut ledger = Ledger::with_room(8)?;
+/// let four = WideHalf::new([20, 21], [1, 2], Rights::UPDATE)?;
+/// ledger.say_wide("planner", Kind::Permission, Some(four))?;
+/// ledger.say("foreman", Kind::Permission, Some(Half::new(21, 2, Rights::UPDATE)))?; // one of the same rights
+/// let fewer = ledger.say("planner", Kind::Permission, Some(Half::new(20, 1, Rights::UPDATE)))?;
+/// assert_eq!(fewer.message.to_string(), "P, from keys 20 21, ids 1 2, U to key 20, id 1, U");
+/// let ended = ledger.say("planner", Kind::Permission, None)?;
+/// assert!(matches!((fewer.message, ended.message), (Sent::Wide(_), Sent::Plain(_))));
+/// assert!(ledger.block().may(2, 21, Rights::UPDATE)?); // the foreman's still stands
+/// assert_eq!(ledger.block().records()?.len(), 1);
+/// # Ok::<(), Box<dyn std::error::Error>>(())
+/// ```
+///
+/// A message is kept as what it says. Where it is wide and a plain one would do, the plain one is shown and given back in its
+/// place.
 ///
 /// What [`Ledger::take`] does with a message:
 ///
@@ -76,8 +98,9 @@ pub struct Ledger<L> {
 pub struct Statement {
     /// Its kind, which it keeps.
     pub kind: Kind,
-    /// What it left: the new half of its last applied message, if that had one. It stands while it has something left.
-    pub left: Option<Half>,
+    /// What it left: the new half of its last applied message, if that had one. It stands while it has something left. Where it is
+    /// of one pair, [`WideHalf::plain`] gives it as a plain half.
+    pub left: Option<WideHalf>,
     /// The sequence number of its last applied message; 0 before the first.
     pub taken: u64,
 }
@@ -87,7 +110,7 @@ pub struct Statement {
 pub struct Said {
     /// Its number among the messages of its statement, from 1.
     pub sequence: u64,
-    pub message: Message,
+    pub message: Sent,
 }
 
 /// What became of a message that the ledger took.
@@ -110,7 +133,7 @@ pub enum Why {
     /// Its statement is of this kind, and the message is not.
     OtherKind(Kind),
     /// Its statement left this, and the message quotes something else.
-    NotQuoted(Option<Half>),
+    NotQuoted(Option<WideHalf>),
     /// The library refuses it: with 7 while a count is full, with 8 while the block is.
     Refused(Refusal),
 }
@@ -138,9 +161,9 @@ pub enum NotTaken {
     /// Its statement is of this kind.
     OtherKind(Kind),
     /// It is its turn, and its statement left this, but it quotes something else.
-    NotQuoted(Option<Half>),
+    NotQuoted(Option<WideHalf>),
     /// This other message with the same sequence number is held back.
-    Conflicts(Message),
+    Conflicts(Sent),
     /// Messages of the statement are held back: they come before what would be said now.
     OthersFirst,
     /// No message of the statement is held back.
@@ -192,33 +215,33 @@ pub struct Waiting<'a, L> {
     /// Why the first of those held back is: [`Why::Early`] where the message whose turn it is has not come.
     pub why: Why,
     /// The messages held back, with their sequence numbers, which rise.
-    pub held: Vec<(u64, Message)>,
+    pub held: Vec<(u64, Sent)>,
 }
 
-/// A well-formed message taken apart.
+/// What a well-formed message says, plain or wide.
 #[derive(Clone, Copy, Debug, PartialEq, Eq)]
 struct Told {
     kind: Kind,
-    previous: Option<Half>,
-    new: Option<Half>,
+    previous: Option<WideHalf>,
+    new: Option<WideHalf>,
 }
 
 impl Told {
     /// Takes a message apart; one that is not well formed is refused with 3, 4 or 5. It is the library that judges: it tests
     /// these before it looks for what to take (6) and for room (8), and a block without room has neither.
-    fn of(message: &Message) -> Result<Told, Refusal> {
-        match Block::with_room(0)?.apply(message) {
+    fn of(sent: &Sent) -> Result<Told, Refusal> {
+        match sent.apply_to(&mut Block::with_room(0)?) {
             Err(Refusal::NothingToTake | Refusal::NoRoom) => {}
             Err(refusal) => return Err(refusal),
             Ok(()) => return Err(Refusal::Form),
         }
-        let [previous, new] = message.halves();
-        Ok(Told { kind: message.kind().ok_or(Refusal::Form)?, previous, new })
+        let [previous, new] = sent.halves();
+        Ok(Told { kind: sent.kind().ok_or(Refusal::Form)?, previous, new })
     }
 
-    /// The message again.
-    fn message(&self) -> Message {
-        Message::new(self.kind, self.previous, self.new)
+    /// A message that says it.
+    fn message(&self) -> Sent {
+        Sent::new(self.kind, self.previous, self.new)
     }
 }
 
@@ -240,7 +263,7 @@ impl Known {
     }
 
     /// What the statement left.
-    fn left(&self) -> Option<Half> {
+    fn left(&self) -> Option<WideHalf> {
         self.said.and_then(|said| said.left)
     }
 
@@ -286,7 +309,7 @@ impl Known {
             if self.fits(sequence, &told).is_err() {
                 break;
             }
-            if let Err(refusal) = block.apply(told.message()) {
+            if let Err(refusal) = told.message().apply_to(block) {
                 self.refused = Some(refusal);
                 break;
             }
@@ -324,7 +347,7 @@ impl<L: Ord> Ledger<L> {
         let known = statements.into_iter().map(|(label, said)| (label, Known { said: Some(said), ..Known::default() }));
         ledger.known.extend(known);
         for said in ledger.known.values().filter_map(|known| known.said).filter(|said| said.left.is_some()) {
-            ledger.block.apply(Message::new(said.kind, None, said.left))?;
+            Sent::new(said.kind, None, said.left).apply_to(&mut ledger.block)?;
         }
         Ok(ledger)
     }
@@ -340,6 +363,12 @@ impl<L: Ord> Ledger<L> {
     /// A statement has one speaker. So it is refused while messages of the statement are held back: the numbers that are
     /// missing here were given to others already.
     pub fn say(&mut self, label: L, kind: Kind, new: Option<Half>) -> Result<Said, NotTaken> {
+        self.say_wide(label, kind, new.map(WideHalf::from))
+    }
+
+    /// Says something of several keys and ids at a time, as [`Ledger::say`] does of one pair. The message is wide only where it has
+    /// to be: where what it quotes or what it says is of more than one pair.
+    pub fn say_wide(&mut self, label: L, kind: Kind, new: Option<WideHalf>) -> Result<Said, NotTaken> {
         let blank = Known::default();
         let known = self.known.get(&label).unwrap_or(&blank);
         if !known.held.is_empty() {
@@ -349,18 +378,19 @@ impl<L: Ord> Ledger<L> {
         let told = Told { kind, previous: known.left(), new };
         known.fits(sequence, &told)?;
         let message = told.message();
-        self.block.apply(message)?;
+        message.apply_to(&mut self.block)?;
         self.applied(label, sequence, told);
         Ok(Said { sequence, message })
     }
 
-    /// Takes a message of a statement that was said elsewhere, with its sequence number: applies it in its turn, or holds it
-    /// back until then. The table [above](Ledger) has every case.
+    /// Takes a message of a statement that was said elsewhere, plain or wide, with its sequence number: applies it in its turn, or
+    /// holds it back until then. The table [above](Ledger) has every case.
     ///
     /// Where the answer is a [`Taken`], the ledger has seen to the message, and it need not be handed in again. Where it is a
     /// [`NotTaken`], the ledger does not have it.
-    pub fn take(&mut self, label: L, sequence: u64, message: Message) -> Result<Taken, NotTaken> {
-        let told = Told::of(&message)?;
+    pub fn take(&mut self, label: L, sequence: u64, message: impl Into<Sent>) -> Result<Taken, NotTaken> {
+        let sent = message.into();
+        let told = Told::of(&sent)?;
         if sequence == 0 {
             return Err(NotTaken::SequenceZero);
         }
@@ -375,7 +405,7 @@ impl<L: Ord> Ledger<L> {
             None => {}
         }
         let why = match known.fits(sequence, &told) {
-            Ok(()) => match self.block.apply(message) {
+            Ok(()) => match sent.apply_to(&mut self.block) {
                 Ok(()) => return Ok(Taken::Applied { released: self.applied(label, sequence, told) }),
                 Err(refusal @ (Refusal::CountFull | Refusal::NoRoom)) => Why::Refused(refusal),
                 Err(refusal) => return Err(refusal.into()),
@@ -462,7 +492,7 @@ impl<L: Ord> Ledger<L> {
         known.keeps(held.kind)?;
         let told = Told { previous: known.left(), ..held };
         if told.previous.is_some() || told.new.is_some() {
-            self.block.apply(told.message())?;
+            told.message().apply_to(&mut self.block)?;
         }
         known.held.pop_first();
         known.says(sequence, told);
@@ -472,7 +502,7 @@ impl<L: Ord> Ledger<L> {
     }
 
     /// Takes a message that is held back out of the ledger, as though it had not come.
-    pub fn give_back<Q>(&mut self, label: &Q, sequence: u64) -> Option<Message>
+    pub fn give_back<Q>(&mut self, label: &Q, sequence: u64) -> Option<Sent>
     where
         L: Borrow<Q>,
         Q: Ord + ?Sized,
@@ -491,7 +521,7 @@ impl<L: Ord> Ledger<L> {
     }
 
     /// What a statement left, if it stands.
-    pub fn left<Q>(&self, label: &Q) -> Option<Half>
+    pub fn left<Q>(&self, label: &Q) -> Option<WideHalf>
     where
         L: Borrow<Q>,
         Q: Ord + ?Sized,
@@ -504,13 +534,11 @@ impl<L: Ord> Ledger<L> {
         self.known.iter().filter_map(|(label, known)| Some((label, known.said?)))
     }
 
-    /// The statements that stand with a record, and what each left, its letters and its marker: who is to be asked why a right is
-    /// there, or why somebody is bound.
+    /// The statements that stand with a record, and what each left of it, its letters and its marker: who is to be asked why a right
+    /// is there, or why somebody is bound. A wide statement is among those of each of its pairs.
     pub fn statements_of(&self, kind: Kind, key: Name, id: Name) -> impl Iterator<Item = (&L, Half)> {
-        self.statements().filter_map(move |(label, said)| {
-            let half = said.left.filter(|half| (said.kind, half.key, half.id) == (kind, key, id))?;
-            Some((label, half))
-        })
+        let of_kind = self.statements().filter(move |(_, said)| said.kind == kind);
+        of_kind.filter_map(move |(label, said)| Some((label, said.left?.pair(key, id)?)))
     }
 
     /// The statements that have messages held back, by label.

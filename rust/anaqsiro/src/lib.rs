@@ -29,9 +29,11 @@
 //! ```
 //!
 //! - [`Block`]: messages, the two questions, sets as text, the records, and saving it with a checksum.
+//! - [`WideMessage`]: a message about several objects and subjects at a time.
 //! - [`DirectedBlock`]: a block with its directory, where many questions are asked of a large one.
 //! - [`Ledger`]: a block with its statements. Use it where messages may arrive out of order, twice or late, or where nobody
 //!   else keeps what each statement said last.
+//! - [`Sent`]: what a ledger takes and gives to be sent on, a plain message or a wide one.
 //! - [`Rights`] and [`Letters`]: what a question asks for, and what a message gives or denies.
 //! - [`Marker`]: how firms that share one installation are kept apart.
 //! - [`Held`]: what the full question answers: the rights, and how many memberships were examined on each side.
@@ -48,6 +50,8 @@ pub mod raw;
 mod records;
 mod refusal;
 mod saved;
+mod sent;
+mod wide;
 
 pub use block::Block;
 pub use directed::{DirectedBlock, NotDirected};
@@ -58,3 +62,5 @@ pub use message::{Half, Kind, Message, Name, NAMES};
 pub use records::{Record, Records};
 pub use refusal::Refusal;
 pub use saved::NotLoaded;
+pub use sent::Sent;
+pub use wide::{NotWide, WideHalf, WideMessage};

@@ -58,8 +58,48 @@ pub struct Half {
 
 /// A name in the 16 bits that a message has for it. One that they do not hold becomes the greatest that they do, which is
 /// above every name too: the message is refused with 4, as it should be.
-fn narrow(name: Name) -> u16 {
+pub(crate) fn narrow(name: Name) -> u16 {
     u16::try_from(name).unwrap_or(u16::MAX)
+}
+
+/// The bits of the first byte of a message, plain or wide, that have the kind, and the one from which on each half, the previous
+/// and the new one, has its markers: X and N, a bit for each.
+const KIND: u8 = 15;
+const MARKERS: [u32; 2] = [6, 4];
+
+/// The first two bytes of a message, plain or wide, by the marker of each half that is present: the kind with the markers, and
+/// which halves are present.
+pub(crate) fn front(kind: Kind, halves: [Option<Option<Marker>>; 2]) -> [u8; 2] {
+    let mut front = [kind.number(), 0];
+    for (side, half) in halves.into_iter().enumerate() {
+        if let Some(marker) = half {
+            front[0] |= marker.map_or(0, |marker| 1 << marker as u8) << MARKERS[side];
+            front[1] |= 1 << side;
+        }
+    }
+    front
+}
+
+/// The kind in the first byte, if its number is one of a kind.
+pub(crate) fn kind_in(first: u8) -> Option<Kind> {
+    Kind::from_number((first & KIND).into())
+}
+
+/// The marker of a half in the first byte, by the half's number; none where it has both, which is refused.
+pub(crate) fn marker_in(first: u8, side: usize) -> Option<Marker> {
+    let bits = first >> MARKERS[side] & 3;
+    Marker::ALL.into_iter().find(|&marker| bits == 1 << marker as u8)
+}
+
+/// Whether the second byte says that a half is present, by the half's number.
+pub(crate) fn has_half(flags: u8, side: usize) -> bool {
+    flags >> side & 1 == 1
+}
+
+/// A message, plain or wide, as text: its kind, and what the statement said before and says now.
+pub(crate) fn in_words(kind: Option<Kind>, halves: [Option<impl fmt::Display>; 2]) -> String {
+    let [previous, new] = halves.map(|half| half.map_or("nothing".into(), |half| half.to_string()));
+    format!("{}, from {previous} to {new}", kind.map_or('?', Kind::letter))
 }
 
 impl Half {
@@ -111,7 +151,7 @@ impl fmt::Display for Half {
 }
 
 /// A message: its kind with the markers of the halves, which halves are present, and the two halves. It may be any bytes; the library
-/// refuses what is wrong.
+/// refuses what is wrong. A [`WideMessage`](crate::WideMessage) speaks of several keys and ids at a time.
 ///
 /// ```
 /// use anaqsiro::{Half, Kind, Letters, Message};
@@ -129,20 +169,14 @@ impl Message {
     pub const BYTES: usize = Self::HALVES + 2 * Half::BYTES;
     /// Where the halves begin, after kind and flags.
     const HALVES: usize = 2;
-    /// The bits of the first byte that have the kind, and the one from which on each half, the previous and the new one, has its
-    /// markers: X and N, a bit for each.
-    const KIND: u8 = 15;
-    const MARKERS: [u32; 2] = [6, 4];
 
     /// What the statement said before, and what it says now.
     pub fn new(kind: Kind, previous: Option<Half>, new: Option<Half>) -> Message {
-        let mut bytes = [0; Message::BYTES];
-        let (front, halves) = bytes.split_at_mut(Self::HALVES);
-        front[0] = kind.number();
-        for (side, (half, bytes)) in [previous, new].into_iter().zip(halves.chunks_mut(Half::BYTES)).enumerate() {
+        let (mut bytes, halves) = ([0; Message::BYTES], [previous, new]);
+        let (first, rest) = bytes.split_at_mut(Self::HALVES);
+        first.copy_from_slice(&front(kind, halves.map(|half| half.map(|half| half.marker))));
+        for (half, bytes) in halves.into_iter().zip(rest.chunks_mut(Half::BYTES)) {
             if let Some(half) = half {
-                front[0] |= half.marker.map_or(0, |marker| 1 << marker as u8) << Self::MARKERS[side];
-                front[1] |= 1 << side;
                 half.put(bytes);
             }
         }
@@ -151,13 +185,7 @@ impl Message {
 
     /// The kind, if its number is one of a kind. The markers of the halves, which stand in the same byte, are not looked at.
     pub fn kind(&self) -> Option<Kind> {
-        Kind::from_number((self.0[0] & Self::KIND).into())
-    }
-
-    /// The marker of a half by its number; none where it has both, which is refused.
-    fn marker(&self, side: usize) -> Option<Marker> {
-        let bits = self.0[0] >> Self::MARKERS[side] & 3;
-        Marker::ALL.into_iter().find(|&marker| bits == 1 << marker as u8)
+        kind_in(self.0[0])
     }
 
     /// The previous half and the new one, each if the flags say that it is present. A half with both markers, which is refused, is
@@ -165,7 +193,7 @@ impl Message {
     pub fn halves(&self) -> [Option<Half>; 2] {
         [0, 1].map(|side| {
             let bytes = &self.0[Self::HALVES + side * Half::BYTES..][..Half::BYTES];
-            (self.0[1] >> side & 1 == 1).then(|| Half::get(bytes, self.marker(side)))
+            has_half(self.0[1], side).then(|| Half::get(bytes, marker_in(self.0[0], side)))
         })
     }
 }
@@ -187,8 +215,6 @@ impl TryFrom<&[u8]> for Message {
 
 impl fmt::Display for Message {
     fn fmt(&self, f: &mut fmt::Formatter<'_>) -> fmt::Result {
-        let [previous, new] = self.halves().map(|half| half.map_or("nothing".into(), |half| half.to_string()));
-        let kind = self.kind().map_or('?', Kind::letter);
-        write!(f, "{kind}, from {previous} to {new}")
+        f.write_str(&in_words(self.kind(), self.halves()))
     }
 }

@@ -6,12 +6,21 @@
 extern "C" {
     pub fn anaqsiro_make(block: *mut u8, len: usize) -> u64;
     pub fn anaqsiro_message(block: *mut u8, len: usize, message: *const u8, message_len: usize) -> u64;
+    pub fn anaqsiro_wide(block: *mut u8, len: usize, message: *const u8, message_len: usize) -> u64;
     pub fn anaqsiro_rights(block: *const u8, len: usize, user: u64, object: u64, request: u64) -> u64;
     pub fn anaqsiro_may(block: *const u8, len: usize, user: u64, object: u64, request: u64) -> u64;
     pub fn anaqsiro_write(block: *const u8, len: usize, kind: u64, key: u64, out: *mut u8, out_len: usize) -> u64;
     pub fn anaqsiro_read(block: *mut u8, len: usize, kind: u64, key: u64, text: *const u8, text_len: usize) -> u64;
     pub fn anaqsiro_directory(block: *const u8, len: usize, directory: *mut u16, directory_len: usize) -> u64;
     pub fn anaqsiro_message_by(
+        block: *mut u8,
+        len: usize,
+        directory: *mut u16,
+        directory_len: usize,
+        message: *const u8,
+        message_len: usize,
+    ) -> u64;
+    pub fn anaqsiro_wide_by(
         block: *mut u8,
         len: usize,
         directory: *mut u16,

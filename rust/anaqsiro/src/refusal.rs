@@ -11,7 +11,8 @@ pub enum Refusal {
     /// 2: block not good.
     BlockNotGood,
     /// 3: message not as long as a [`Message`](crate::Message), or kind, flags, a marker or an absent half wrong: both markers in one
-    /// half, one on an absent half, or one on a permission or a filter.
+    /// half, one on an absent half, or one on a permission or a filter. Of a [`WideMessage`](crate::WideMessage) also a header or a
+    /// length that is not that of its lists, or a list that is empty, too long or not strictly rising.
     Form,
     /// 4: a name that is not below [`NAMES`](crate::NAMES).
     Name,
@@ -86,7 +87,10 @@ impl fmt::Display for Refusal {
         let why = match self {
             Refusal::BlockLength => "block length not 16 to 49,168",
             Refusal::BlockNotGood => "block not good",
-            Refusal::Form => "message not 12 bytes, or kind, flags, a marker or an absent half wrong; kind not 1 to 3",
+            Refusal::Form => {
+                "message not 12 bytes, or kind, flags, a marker or an absent half wrong; \
+                 a wide message's header, length or list wrong; kind not 1 to 3"
+            }
             Refusal::Name => "a name above 1023, given by the caller or in a present half",
             Refusal::Mask => "request 0 or above 15; a present half's mask 0, or above 15 for M or F",
             Refusal::NothingToTake => "a letter or marker of the previous half has count 0 or no record",

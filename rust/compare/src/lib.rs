@@ -71,6 +71,7 @@ macro_rules! functions {
 functions! {
     make = anaqsiro_make: unsafe extern "C" fn(*mut u8, usize) -> u64,
     message = anaqsiro_message: unsafe extern "C" fn(*mut u8, usize, *const u8, usize) -> u64,
+    wide = anaqsiro_wide: unsafe extern "C" fn(*mut u8, usize, *const u8, usize) -> u64,
     rights = anaqsiro_rights: unsafe extern "C" fn(*const u8, usize, u64, u64, u64) -> u64,
     may = anaqsiro_may: unsafe extern "C" fn(*const u8, usize, u64, u64, u64) -> u64,
     write = anaqsiro_write: unsafe extern "C" fn(*const u8, usize, u64, u64, *mut u8, usize) -> u64,
@@ -81,6 +82,7 @@ functions! {
     count = anaqsiro_count: unsafe extern "C" fn(*const u8, usize, u64, u64) -> u64,
     directory = anaqsiro_directory: unsafe extern "C" fn(*const u8, usize, *mut u16, usize) -> u64,
     message_by = anaqsiro_message_by: unsafe extern "C" fn(*mut u8, usize, *mut u16, usize, *const u8, usize) -> u64,
+    wide_by = anaqsiro_wide_by: unsafe extern "C" fn(*mut u8, usize, *mut u16, usize, *const u8, usize) -> u64,
     rights_by = anaqsiro_rights_by: unsafe extern "C" fn(*const u8, usize, *const u16, usize, u64, u64, u64) -> u64,
     may_by = anaqsiro_may_by: unsafe extern "C" fn(*const u8, usize, *const u16, usize, u64, u64, u64) -> u64,
     write_by = anaqsiro_write_by: unsafe extern "C" fn(*const u8, usize, *const u16, usize, u64, u64, *mut u8, usize) -> u64,
@@ -95,6 +97,10 @@ impl Library for Archive {
 
     fn message(&self, block: &mut [u8], message: &[u8]) -> u64 {
         unsafe { (self.message)(block.as_mut_ptr(), block.len(), message.as_ptr(), message.len()) }
+    }
+
+    fn wide(&self, block: &mut [u8], message: &[u8]) -> u64 {
+        unsafe { (self.wide)(block.as_mut_ptr(), block.len(), message.as_ptr(), message.len()) }
     }
 
     fn rights(&self, block: &[u8], user: u64, object: u64, request: u64) -> u64 {
@@ -136,6 +142,11 @@ impl Library for Archive {
     fn message_by(&self, block: &mut [u8], directory: &mut [u16], message: &[u8]) -> u64 {
         let (entries, many) = (directory.as_mut_ptr(), directory.len());
         unsafe { (self.message_by)(block.as_mut_ptr(), block.len(), entries, many, message.as_ptr(), message.len()) }
+    }
+
+    fn wide_by(&self, block: &mut [u8], directory: &mut [u16], message: &[u8]) -> u64 {
+        let (entries, many) = (directory.as_mut_ptr(), directory.len());
+        unsafe { (self.wide_by)(block.as_mut_ptr(), block.len(), entries, many, message.as_ptr(), message.len()) }
     }
 
     fn rights_by(&self, block: &[u8], directory: &[u16], user: u64, object: u64, request: u64) -> u64 {

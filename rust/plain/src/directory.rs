@@ -1,6 +1,7 @@
 //! The directory of keys, and the calls by one: they find the records of a key by two entries, and where records move they move
 //! the entries of what stands behind.
 
+use crate::wide::wide_with;
 use crate::{answered, asked, full, message_with, parts, read_with, short, sound, tested, word, write_with};
 use crate::{Answer, Find, Keep, Look, Record, Span, F, HEADER, KINDS, M, NAMES, RECORD};
 
@@ -107,6 +108,10 @@ impl Look for Directory {
 
 pub fn message_by(b: &mut [u8], lent: &mut [u16], m: &[u8]) -> u32 {
     own_mut(b, lent).map_or_else(|number| number, |directory| message_with(b, directory, m))
+}
+
+pub fn wide_by(b: &mut [u8], lent: &mut [u16], m: &[u8]) -> u32 {
+    own_mut(b, lent).map_or_else(|number| number, |directory| wide_with(b, directory, m))
 }
 
 pub fn read_by(b: &mut [u8], lent: &mut [u16], kind: u64, key: u64, text: &[u8]) -> (u32, u32) {

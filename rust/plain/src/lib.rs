@@ -7,8 +7,10 @@ use second::drive::{packed, Library};
 
 mod bound;
 mod directory;
+mod wide;
 
-pub use directory::{directory, may_by, message_by, read_by, rights_by, write_by, ENTRIES};
+pub use directory::{directory, may_by, message_by, read_by, rights_by, wide_by, write_by, ENTRIES};
+pub use wide::{wide, LIST};
 
 const LETTERS: [u8; 10] = *b"MRUPmrupXN";
 /// How many of the letters are rights, and the mask of those; the denials follow, and then the markers.
@@ -287,49 +289,77 @@ pub fn message(b: &mut [u8], m: &[u8]) -> u32 {
     sound(b).map_or_else(|number| number, |_| message_with(b, &mut Search, m))
 }
 
-/// A half of a message, by its number: whether it is there, its bytes, and its markers.
-fn half(m: &[u8], half: usize) -> (bool, &[u8], usize) {
-    (m[1] >> half & 1 == 1, &m[half_at(half)..half_at(half + 1)], usize::from(m[0] >> MARKED[half] & 3))
+/// What the first two bytes of a message say: its part, and for each half whether it is there, and its markers.
+struct Front {
+    kind: usize,
+    there: [bool; 2],
+    markers: [usize; 2],
+}
+
+/// The first two bytes of a message; else 3.
+#[inline]
+fn front(first: u8, flags: u8) -> Result<Front, u32> {
+    if !(1..=3).contains(&(first & KIND)) || !(1..=3).contains(&flags) {
+        return Err(3);
+    }
+    let kind = usize::from(first & KIND) - 1;
+    let (there, markers) = ([OLD, NEW].map(|half| flags >> half & 1 == 1), MARKED.map(|at| usize::from(first >> at & 3)));
+    if first > KIND {
+        if kind != M || markers[OLD] == 3 || markers[NEW] == 3 {
+            return Err(3);
+        }
+        if (!there[OLD] && markers[OLD] != 0) || (!there[NEW] && markers[NEW] != 0) {
+            return Err(3);
+        }
+    }
+    Ok(Front { kind, there, markers })
+}
+
+impl Front {
+    /// The masks of the halves, with their markers, by the bytes that have the letters; else 5.
+    #[inline]
+    fn masks(&self, bytes: [u8; 2]) -> Result<[usize; 2], u32> {
+        let bad = |half: usize| self.there[half] && (bytes[half] == 0 || (self.kind != P && bytes[half] > ALL));
+        if bad(OLD) || bad(NEW) {
+            return Err(5);
+        }
+        Ok([OLD, NEW].map(|half| usize::from(bytes[half]) | self.markers[half] << (2 * RIGHTS)))
+    }
+}
+
+/// A message that was read: its part, and of each half that is there the record and the mask.
+type Message = (usize, [Option<(usize, usize)>; 2]);
+
+fn read_message(m: &[u8]) -> Result<Message, u32> {
+    let m: &[u8; MESSAGE] = m.try_into().map_err(|_| 3u32)?;
+    let front = front(m[0], m[1])?;
+    let halves = [OLD, NEW].map(|half| &m[half_at(half)..half_at(half + 1)]);
+    if (!front.there[OLD] && *halves[OLD] != [0; HALF]) || (!front.there[NEW] && *halves[NEW] != [0; HALF]) {
+        return Err(3);
+    }
+    if halves.into_iter().any(|half| word(half, 0) >= NAMES || word(half, ID) >= NAMES) {
+        return Err(4);
+    }
+    let masks = front.masks(halves.map(|half| half[MASK]))?;
+    Ok((front.kind, [OLD, NEW].map(|half| front.there[half].then(|| (pair(halves[half], 0), masks[half])))))
 }
 
 /// The message on a good block, whose records are found in this way.
 fn message_with(b: &mut [u8], keys: &mut impl Keep, m: &[u8]) -> u32 {
-    if m.len() != MESSAGE || !(1..=3).contains(&(m[0] & KIND)) || !(1..=3).contains(&m[1]) {
-        return 3;
-    }
-    let kind = usize::from(m[0] & KIND) - 1;
-    let ((old, from, unmark), (new, to, mark)) = (half(m, OLD), half(m, NEW));
-    if (!old && *from != [0; HALF]) || (!new && *to != [0; HALF]) {
-        return 3;
-    }
-    if m[0] > KIND {
-        if kind != M || unmark == 3 || mark == 3 {
-            return 3;
-        }
-        if (!old && unmark != 0) || (!new && mark != 0) {
-            return 3;
-        }
-    }
-    if [from, to].into_iter().any(|half| word(half, 0) >= NAMES || word(half, ID) >= NAMES) {
-        return 4;
-    }
-    let (less, more) = (usize::from(from[MASK]), usize::from(to[MASK]));
-    let bad = |mask: usize| mask == 0 || (kind != P && mask > usize::from(ALL));
-    if (old && bad(less)) || (new && bad(more)) {
-        return 5;
-    }
-    let (less, more) = (less | unmark << (2 * RIGHTS), more | mark << (2 * RIGHTS));
-    let (from, to) = (pair(from, 0), pair(to, 0));
-    if old {
+    let (kind, [old, new]) = match read_message(m) {
+        Err(number) => return number,
+        Ok(message) => message,
+    };
+    if let Some((from, less)) = old {
         let number = take(b, keys, kind, from, less);
         if number != 0 {
             return number;
         }
     }
-    if new {
+    if let Some((to, more)) = new {
         let number = add(b, keys, kind, to, more);
         if number != 0 {
-            if old {
+            if let Some((from, less)) = old {
                 add(b, keys, kind, from, less);
             }
             return number;
@@ -793,6 +823,10 @@ impl Library for Plain {
         packed(message(block, bytes), 0)
     }
 
+    fn wide(&self, block: &mut [u8], bytes: &[u8]) -> u64 {
+        packed(wide(block, bytes), 0)
+    }
+
     fn rights(&self, block: &[u8], user: u64, object: u64, request: u64) -> u64 {
         both(rights(block, user, object, request))
     }
@@ -831,6 +865,10 @@ impl Library for Plain {
 
     fn message_by(&self, block: &mut [u8], directory: &mut [u16], bytes: &[u8]) -> u64 {
         packed(message_by(block, directory, bytes), 0)
+    }
+
+    fn wide_by(&self, block: &mut [u8], directory: &mut [u16], bytes: &[u8]) -> u64 {
+        packed(wide_by(block, directory, bytes), 0)
     }
 
     fn rights_by(&self, block: &[u8], directory: &[u16], user: u64, object: u64, request: u64) -> u64 {

@@ -1,7 +1,7 @@
 //! The directory of a block and the calls by one, as request M-106 defines them. A lent directory is held against the one that
 //! the records have, entry by entry; then the call is made without it.
 
-use crate::{may, message, read, rights, write, Index, Part, HEADER, KINDS, NAMES, RECORD};
+use crate::{may, message, read, rights, wide, write, Index, Part, HEADER, KINDS, NAMES, RECORD};
 
 /// The entries of a part, for the numbers 0 to 1024, and those of a directory.
 pub const PART_ENTRIES: usize = NAMES as usize + 1;
@@ -52,11 +52,21 @@ pub fn directory(block: &[u8], lent: &[u16]) -> (u32, Vec<u16>) {
     }
 }
 
-/// message by a directory: the number, the block then, and the directory then.
-pub fn message_by(block: &[u8], lent: &[u16], bytes: &[u8]) -> (u32, Vec<u8>, Vec<u16>) {
-    let (number, after) = own(block, lent).map_or_else(|number| (number, block.to_vec()), |()| message(block, bytes));
+/// A message of either form by a directory: the number, the block then, and the directory then.
+fn sent_by(block: &[u8], lent: &[u16], sent: impl FnOnce() -> (u32, Vec<u8>)) -> (u32, Vec<u8>, Vec<u16>) {
+    let (number, after) = own(block, lent).map_or_else(|number| (number, block.to_vec()), |()| sent());
     let directory = kept(number, &after, lent);
     (number, after, directory)
+}
+
+/// message by a directory.
+pub fn message_by(block: &[u8], lent: &[u16], bytes: &[u8]) -> (u32, Vec<u8>, Vec<u16>) {
+    sent_by(block, lent, || message(block, bytes))
+}
+
+/// wide by a directory.
+pub fn wide_by(block: &[u8], lent: &[u16], bytes: &[u8]) -> (u32, Vec<u8>, Vec<u16>) {
+    sent_by(block, lent, || wide(block, bytes))
 }
 
 /// read by a directory: the number, the value, the block then, and the directory then.

@@ -5,7 +5,7 @@ use crate::bound::RULE;
 use crate::gen::{self, Rng};
 use crate::growth::Growth;
 use crate::sides::{rounds, Sides};
-use crate::{binding, carries, denied, granted, has, letters, meets, numbers, passes, set_of, word, Index};
+use crate::{binding, carries, denied, granted, has, letters, meets, numbers, passes, set_of, word, Index, Reading};
 use crate::{
     ALL, CHAIN, COUNTS, DENIALS, HEADER, IDS, KIND, KINDS, LAST, LETTERS, M, MARKERS, MESSAGE, NAMES, P, RECORD, RIGHTS,
 };
@@ -15,11 +15,13 @@ use std::ops::Range;
 
 mod by;
 mod markers;
+mod wide;
 
 /// The calls, each returning the refusal's number times 2^32 plus a value, as the C interface does.
 pub trait Library {
     fn make(&self, block: &mut [u8]) -> u64;
     fn message(&self, block: &mut [u8], message: &[u8]) -> u64;
+    fn wide(&self, block: &mut [u8], message: &[u8]) -> u64;
     fn rights(&self, block: &[u8], user: u64, object: u64, request: u64) -> u64;
     fn may(&self, block: &[u8], user: u64, object: u64, request: u64) -> u64;
     fn write(&self, block: &[u8], kind: u64, key: u64, out: &mut [u8]) -> u64;
@@ -30,6 +32,7 @@ pub trait Library {
     fn count(&self, block: &[u8], number: u64, letter: u64) -> u64;
     fn directory(&self, block: &[u8], directory: &mut [u16]) -> u64;
     fn message_by(&self, block: &mut [u8], directory: &mut [u16], message: &[u8]) -> u64;
+    fn wide_by(&self, block: &mut [u8], directory: &mut [u16], message: &[u8]) -> u64;
     fn rights_by(&self, block: &[u8], directory: &[u16], user: u64, object: u64, request: u64) -> u64;
     fn may_by(&self, block: &[u8], directory: &[u16], user: u64, object: u64, request: u64) -> u64;
     fn write_by(&self, block: &[u8], directory: &[u16], kind: u64, key: u64, out: &mut [u8]) -> u64;
@@ -189,9 +192,9 @@ const TO_MEET: &[(&str, &str, &[i64])] = &[
     ("count", "number too great, that names a record by its last bits", &[16, 32]),
 ];
 
-/// The lines of `TO_MEET`, those of the markers and those of the calls by a directory.
+/// The lines of `TO_MEET`, those of wide messages, those of the markers and those of the calls by a directory.
 fn to_meet() -> impl Iterator<Item = (&'static str, &'static str, &'static [i64])> {
-    let more = [markers::TO_MEET, by::TO_MEET].concat().into_iter();
+    let more = [wide::TO_MEET, markers::TO_MEET, by::TO_MEET].concat().into_iter();
     let more = more.flat_map(|(calls, what, all)| calls.iter().map(move |&call| (call, what, all)));
     TO_MEET.iter().copied().chain(more)
 }
@@ -236,6 +239,28 @@ impl Tally {
 /// A question as the second program answers it, and as a library is asked it.
 type Answer = fn(&[u8], u64, u64, u64) -> (u32, u32);
 type Ask = fn(&dyn Library, &[u8], u64, u64, u64) -> u64;
+
+/// A form of message: how one is drawn, how both programs take it, without a directory and by one, how it is read, and what is seen
+/// of one that got a number and left a block.
+struct Form {
+    drawn: fn(&mut Call) -> Vec<u8>,
+    second: fn(&[u8], &[u8]) -> (u32, Vec<u8>),
+    lib: fn(&dyn Library, &mut [u8], &[u8]) -> u64,
+    second_by: fn(&[u8], &[u16], &[u8]) -> (u32, Vec<u8>, Vec<u16>),
+    lib_by: fn(&dyn Library, &mut [u8], &mut [u16], &[u8]) -> u64,
+    read: Reading,
+    saw: fn(&mut Call, u32, &[u8], &[u8]),
+}
+
+const PLAIN: Form = Form {
+    drawn: |call| call.bytes(),
+    second: crate::message,
+    lib: |lib, b, m| lib.message(b, m),
+    second_by: crate::message_by,
+    lib_by: |lib, b, d, m| lib.message_by(b, d, m),
+    read: crate::plain,
+    saw: |call, number, _, after| call.saw_plain(number, after),
+};
 
 /// One call in the making: the library, the block that it is made on, the records of that block or of one like it, the
 /// directory that the library last made or kept true, and whether that one is to be lent.
@@ -290,26 +315,34 @@ impl Call<'_> {
         }
     }
 
-    fn message(&mut self) -> Result<Vec<u8>, String> {
-        let m = self.bytes();
-        let (number, after) = crate::message(self.block, &m);
+    /// Sends a message of the form.
+    fn sent(&mut self, form: &Form) -> Result<Vec<u8>, String> {
+        let m = (form.drawn)(self);
+        let (number, after) = (form.second)(self.block, &m);
         let (mut b, mut lent) = (Lent::new(self.block), Lent::new(&m));
-        let got = self.lib.message(b.lend(), lent.lend());
+        let got = (form.lib)(self.lib, b.lend(), lent.lend());
         self.agree(got, number, 0, &[b.is(&after), lent.is(&m)], format!("{m:02x?}"))?;
-        self.saw_message(number, &m, &after);
+        self.saw_message(form, number, &m, &after);
         Ok(after)
     }
 
-    /// What a message that got this number did.
-    fn saw_message(&mut self, number: u32, m: &[u8], after: &[u8]) {
-        self.saw_markers(number, m);
+    /// What a message of the form that got this number did.
+    fn saw_message(&mut self, form: &Form, number: u32, m: &[u8], after: &[u8]) {
+        self.saw_markers(form, number, m);
         if number == 0 {
             self.saw("kind accepted", (m[0] & KIND).into());
             self.saw("flags accepted", m[1].into());
-            self.saw("records more", Self::records(after) - Self::records(self.block));
         }
         if [0, 7, 8].contains(&number) && has(m[1], 0) {
             self.saw("number after a half was taken", number.into());
+        }
+        (form.saw)(self, number, m, after);
+    }
+
+    /// How many records a plain message brought or took.
+    fn saw_plain(&mut self, number: u32, after: &[u8]) {
+        if number == 0 {
+            self.saw("records more", Self::records(after) - Self::records(self.block));
         }
     }
 
@@ -729,10 +762,11 @@ type Made = fn(&mut Call) -> Result<Vec<u8>, String>;
 /// A call by name, and how often it is drawn.
 type Often = (&'static str, u64, Made);
 
-/// The calls, each as often as it is drawn among 23.
-const CALLS: [Often; 16] = [
+/// The calls, each as often as it is drawn among 29.
+const CALLS: [Often; 18] = [
     ("make", 1, |call| call.make()),
-    ("message", 3, |call| call.message()),
+    ("message", 3, |call| call.sent(&PLAIN)),
+    ("wide", 3, |call| call.sent(&wide::WIDE)),
     ("rights", 2, |call| call.rights()),
     ("may", 1, |call| call.may()),
     ("write", 1, |call| call.write()),
@@ -742,7 +776,8 @@ const CALLS: [Often; 16] = [
     ("record", 1, |call| call.record()),
     ("count", 1, |call| call.count()),
     ("directory", 1, |call| call.directory()),
-    ("message_by", 3, |call| call.message_by()),
+    ("message_by", 3, |call| call.sent_by(&PLAIN)),
+    ("wide_by", 3, |call| call.sent_by(&wide::WIDE)),
     ("rights_by", 1, |call| call.rights_by()),
     ("may_by", 1, |call| call.may_by()),
     ("write_by", 1, |call| call.write_by()),
@@ -796,7 +831,7 @@ fn one_case(lib: &dyn Library, rng: &mut Rng, tally: &mut Tally) -> Result<(), S
     if case.rng.one_in(20) {
         return case.stream();
     }
-    for _ in 0..1 + case.rng.below(12) {
+    for _ in 0..1 + case.rng.below(15) {
         case.one(&index_of(&case.block), &CALLS)?;
     }
     if case.block.len() >= HEADER {

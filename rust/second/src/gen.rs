@@ -1,13 +1,15 @@
 //! Seeded cases: good blocks of every shape, damage of every kind, and calls that provoke each refusal on purpose.
 
-use crate::{has, lettered, letters, text, Counts, Index};
+use crate::{has, lettered, letters, once, text, Counts, Index};
 use crate::{ALL, CHAIN, COUNTS, F, FLAGS, GREATEST, HALF, HALVES, HEADER, KIND, KINDS, LAST, LETTERS, MARKED, MARKERS};
 use crate::{ENTRIES, M, MESSAGE, N, NAMES, P, PART_ENTRIES, RECORD, RIGHTS, ROOM};
 use std::collections::BTreeMap;
 
 mod firms;
+mod wide;
 
 use firms::firms;
+pub use wide::wide;
 
 /// A small seeded generator (splitmix64).
 pub struct Rng(pub u64);
@@ -133,6 +135,9 @@ pub fn index(rng: &mut Rng) -> Index {
     if rng.one_in(16) {
         memberships_alone(&mut index);
     }
+    if rng.one_in(4) {
+        wide::grid(rng, &mut index);
+    }
     let spare = match rng.below(6) {
         0 | 1 => 0,
         2 => 1,
@@ -221,13 +226,6 @@ fn two_rights(rng: &mut Rng) -> [u64; 2] {
     [one, (one + 1 + rng.below(all - 1)) % all].map(|right| 1 << right)
 }
 
-/// Counts of 1 for the letters of a mask.
-fn once(mask: u64) -> Counts {
-    let mut counts = Counts::default();
-    letters(mask).for_each(|k| counts[k] = 1);
-    counts
-}
-
 /// A grant of all rights to a name, or on it.
 fn grant(rng: &mut Rng, index: &mut Index, name: u16) {
     let grant = if rng.one_in(2) { (OTHER, name) } else { (name, OTHER) };
@@ -312,6 +310,11 @@ fn masked(letters: impl Iterator<Item = usize>) -> u64 {
     letters.map(|k| 1 << k).sum()
 }
 
+/// The mask of the letters that a record counts.
+fn counted(counts: &Counts) -> u64 {
+    masked((0..counts.len()).filter(|&k| counts[k] > 0))
+}
+
 /// The byte of a half's mask: mostly of letters that its record counts, if it counts some.
 fn byte_of_mask(rng: &mut Rng, kind: usize, counted: u64) -> u8 {
     let mask = counted as u8;
@@ -355,7 +358,7 @@ pub fn message(rng: &mut Rng, index: &Index) -> Vec<u8> {
         }
         let name = last.filter(|_| rng.one_in(2)).unwrap_or_else(|| spoken_of(rng, index, kind));
         last = Some(name);
-        let counted = index.parts[kind].get(&name).map_or(0, |c| masked((0..c.len()).filter(|&k| c[k] > 0)));
+        let counted = index.parts[kind].get(&name).map_or(0, counted);
         m.extend(name.0.to_le_bytes());
         m.extend(name.1.to_le_bytes());
         m.push(byte_of_mask(rng, kind, counted));

@@ -13,10 +13,12 @@ mod examined;
 pub mod gen;
 mod growth;
 mod sides;
+mod wide;
 
 use bound::{member, RULE};
-pub use directory::{directory, may_by, message_by, read_by, rights_by, write_by, ENTRIES, PART_ENTRIES};
+pub use directory::{directory, may_by, message_by, read_by, rights_by, wide_by, write_by, ENTRIES, PART_ENTRIES};
 use examined::examined;
+pub use wide::{wide, Lists, Wide, LIST, WIDE};
 
 /// The letters that a record counts, in their order: the rights, the denial of each, then the markers.
 pub const LETTERS: [u8; 10] = *b"MRUPmrupXN";
@@ -195,9 +197,14 @@ struct Half {
     mask: u64,
 }
 
+impl Half {
+    fn new(name: (u16, u16), byte: u8, markers: u8) -> Half {
+        Half { name, byte, mask: u64::from(byte) | u64::from(markers) << MARKERS.start }
+    }
+}
+
 fn half(bytes: &[u8], markers: u8) -> Half {
-    let byte = bytes[HALF - 1];
-    Half { name: (word(bytes, 0), word(bytes, 2)), byte, mask: u64::from(byte) | u64::from(markers) << MARKERS.start }
+    Half::new((word(bytes, 0), word(bytes, 2)), bytes[HALF - 1], markers)
 }
 
 /// The markers of a half by its number, a bit for each, in the first byte of a message.
@@ -214,80 +221,110 @@ fn letters(mask: u64) -> impl Iterator<Item = usize> {
     (0..LETTERS.len()).filter(move |k| mask >> k & 1 == 1)
 }
 
+/// Counts of 1 for the letters of a mask.
+fn once(mask: u64) -> Counts {
+    let mut counts = Counts::default();
+    letters(mask).for_each(|k| counts[k] = 1);
+    counts
+}
+
 /// The part of a kind's number.
 fn part_of(kind: u64) -> Result<usize, u32> {
     (1..=KINDS as u64).contains(&kind).then(|| kind as usize - 1).ok_or(3)
 }
 
-fn apply(index: &mut Index, message: &[u8]) -> Result<(), u32> {
+/// The part that a message speaks of, by its first two bytes: a kind, the flags of some half, and for each half one marker at most,
+/// where it is there and of memberships.
+fn begun(first: u8, flags: u8) -> Result<usize, u32> {
+    let kind = part_of((first & KIND).into())?;
+    let marked = |side| markers(first, side).count_ones() <= u32::from(kind == M && has(flags, side));
+    ((1..=FLAGS).contains(&flags) && (0..2).all(marked)).then_some(kind).ok_or(3)
+}
+
+/// What a message says: the part that it speaks of, and record by record what it takes away, and then what it adds.
+struct Said {
+    kind: usize,
+    halves: [Vec<Half>; 2],
+}
+
+/// How a message is read: what it says, or 3.
+type Reading = fn(&[u8]) -> Result<Said, u32>;
+
+fn plain(message: &[u8]) -> Result<Said, u32> {
     if message.len() != MESSAGE {
         return Err(3);
     }
-    let (kind, flags) = (part_of((message[0] & KIND).into())?, message[1]);
-    if flags == 0 || flags > FLAGS {
-        return Err(3);
-    }
-    let mut halves = [None, None];
-    for (side, (slot, bytes)) in halves.iter_mut().zip(message[HALVES..].chunks(HALF)).enumerate() {
-        let markers = markers(message[0], side);
-        if markers.count_ones() > u32::from(kind == M && has(flags, side)) {
-            return Err(3);
-        }
+    let (first, flags) = (message[0], message[1]);
+    let mut said = Said { kind: begun(first, flags)?, halves: Default::default() };
+    for (side, bytes) in message[HALVES..].chunks(HALF).enumerate() {
         if has(flags, side) {
-            *slot = Some(half(bytes, markers));
+            said.halves[side].push(half(bytes, markers(first, side)));
         } else if bytes != [0; HALF] {
             return Err(3);
         }
     }
-    let present = || halves.iter().flatten();
-    if present().any(|h| h.name.0 >= NAMES || h.name.1 >= NAMES) {
-        return Err(4);
+    Ok(said)
+}
+
+/// Takes a half away from its record.
+fn take(index: &mut Index, kind: usize, half: &Half) -> Result<(), u32> {
+    let part = &mut index.parts[kind];
+    let counts = part.get_mut(&half.name).ok_or(6u32)?;
+    if letters(half.mask).any(|k| counts[k] == 0) {
+        return Err(6);
     }
-    if present().any(|h| h.byte == 0 || (kind != P && u64::from(h.byte) > ALL)) {
-        return Err(5);
+    letters(half.mask).for_each(|k| counts[k] -= 1);
+    if *counts == Counts::default() {
+        part.remove(&half.name);
     }
-    let room = index.room();
-    if let Some(previous) = &halves[0] {
-        let part = &mut index.parts[kind];
-        let counts = part.get_mut(&previous.name).ok_or(6u32)?;
-        if letters(previous.mask).any(|k| counts[k] == 0) {
-            return Err(6);
-        }
-        letters(previous.mask).for_each(|k| counts[k] -= 1);
-        if *counts == Counts::default() {
-            part.remove(&previous.name);
-        }
-    }
-    if let Some(new) = &halves[1] {
-        let records = index.records();
-        let part = &mut index.parts[kind];
-        match part.get_mut(&new.name) {
-            Some(counts) => {
-                if letters(new.mask).any(|k| counts[k] == u16::MAX) {
-                    return Err(7);
-                }
-                letters(new.mask).for_each(|k| counts[k] += 1);
+    Ok(())
+}
+
+/// Adds a half to its record.
+fn add(index: &mut Index, kind: usize, half: &Half) -> Result<(), u32> {
+    let full = index.records() == index.room();
+    let part = &mut index.parts[kind];
+    match part.get_mut(&half.name) {
+        Some(counts) => {
+            if letters(half.mask).any(|k| counts[k] == u16::MAX) {
+                return Err(7);
             }
-            None => {
-                if records == room {
-                    return Err(8);
-                }
-                let mut counts = Counts::default();
-                letters(new.mask).for_each(|k| counts[k] = 1);
-                part.insert(new.name, counts);
+            letters(half.mask).for_each(|k| counts[k] += 1);
+        }
+        None => {
+            if full {
+                return Err(8);
             }
+            part.insert(half.name, once(half.mask));
         }
     }
     Ok(())
 }
 
-/// message: the number, and the block then.
-pub fn message(block: &[u8], message: &[u8]) -> (u32, Vec<u8>) {
-    let outcome = Index::decode(block).and_then(|mut index| apply(&mut index, message).map(|()| index));
+fn apply(index: &mut Index, Said { kind, halves }: &Said) -> Result<(), u32> {
+    let all = || halves.iter().flatten();
+    if all().any(|h| h.name.0 >= NAMES || h.name.1 >= NAMES) {
+        return Err(4);
+    }
+    if all().any(|h| h.byte == 0 || (*kind != P && u64::from(h.byte) > ALL)) {
+        return Err(5);
+    }
+    halves[0].iter().try_for_each(|half| take(index, *kind, half))?;
+    halves[1].iter().try_for_each(|half| add(index, *kind, half))
+}
+
+/// The number of a message that is read so, and the block then. Where it is refused, what was done to the maps is forgotten.
+fn sent(block: &[u8], message: &[u8], read: Reading) -> (u32, Vec<u8>) {
+    let outcome = Index::decode(block).and_then(|mut index| apply(&mut index, &read(message)?).map(|()| index));
     match outcome {
         Ok(index) => (0, index.encode()),
         Err(number) => (number, block.to_vec()),
     }
+}
+
+/// message: the number, and the block then.
+pub fn message(block: &[u8], message: &[u8]) -> (u32, Vec<u8>) {
+    sent(block, message, plain)
 }
 
 fn carries(counts: &Counts, right: usize) -> bool {
@@ -579,3 +616,5 @@ mod marked;
 mod places;
 #[cfg(test)]
 mod tests;
+#[cfg(test)]
+mod widely;

@@ -73,6 +73,10 @@ impl Library for Safe {
         on(block, |block| block.apply(message).map(|()| 0))
     }
 
+    fn wide(&self, block: &mut [u8], message: &[u8]) -> u64 {
+        on(block, |block| block.apply_wide(message).map(|()| 0))
+    }
+
     fn rights(&self, block: &[u8], user: u64, object: u64, request: u64) -> u64 {
         let safe = Block::from_bytes(block.to_vec());
         match Rights::from_mask(request) {
@@ -144,6 +148,10 @@ impl Library for Safe {
 
     fn message_by(&self, block: &mut [u8], directory: &mut [u16], message: &[u8]) -> u64 {
         on_both(block, directory, |both| both.apply(message).map(|()| 0))
+    }
+
+    fn wide_by(&self, block: &mut [u8], directory: &mut [u16], message: &[u8]) -> u64 {
+        on_both(block, directory, |both| both.apply_wide(message).map(|()| 0))
     }
 
     fn rights_by(&self, block: &[u8], directory: &[u16], user: u64, object: u64, request: u64) -> u64 {

@@ -1,7 +1,8 @@
 //! A block with its directory: the entries, the calls, and that the two stay together.
 
 use crate::blocks::with_room;
-use anaqsiro::{Block, DirectedBlock, Half, Held, Kind, Letters, Marker, Message, Name, NotDirected, Refusal, Rights, NAMES};
+use anaqsiro::{Block, DirectedBlock, Half, Held, Kind, Letters, Marker, Message, Name, NotDirected, Refusal, Rights};
+use anaqsiro::{Sent, WideHalf, WideMessage, NAMES};
 use second::gen::Rng;
 use std::panic::{catch_unwind, AssertUnwindSafe};
 use std::thread;
@@ -95,7 +96,7 @@ fn only_a_good_block_has_one() {
 
 /// A change of a block.
 enum Change {
-    Message(Message),
+    Sent(Sent),
     Text(Kind, Name, &'static str),
 }
 
@@ -107,14 +108,19 @@ impl Change {
             let text = ["", "1;M", "0;R;3;U", "1;M;2;R2;1023;P", "3;M1", "4;RM", "2;MRUPX", "0;N"][rng.below(8) as usize];
             return Change::Text(kind, any_name(rng), text);
         }
-        let (previous, new, flags) = (any_half(rng), any_half(rng), 1 + rng.below(3));
-        Change::Message(Message::new(kind, (flags & 1 > 0).then_some(previous), (flags & 2 > 0).then_some(new)))
+        let flags = 1 + rng.below(3);
+        if rng.one_in(3) {
+            let [previous, new] = [1, 2].map(|side| (flags & side > 0).then(|| any_wide_half(rng)));
+            return Change::Sent(WideMessage::new(kind, previous, new).into());
+        }
+        let [previous, new] = [1, 2].map(|side| (flags & side > 0).then(|| any_half(rng)));
+        Change::Sent(Message::new(kind, previous, new).into())
     }
 
     /// What a block answers to it.
     fn on_block(&self, block: &mut Block) -> Result<usize, Refusal> {
         match *self {
-            Change::Message(message) => block.apply(message).map(|()| 0),
+            Change::Sent(sent) => sent.apply_to(block).map(|()| 0),
             Change::Text(kind, key, text) => block.read_set(kind, key, text),
         }
     }
@@ -122,7 +128,8 @@ impl Change {
     /// What a block with its directory answers to it.
     fn on_both(&self, directed: &mut DirectedBlock) -> Result<usize, Refusal> {
         match *self {
-            Change::Message(message) => directed.apply(message).map(|()| 0),
+            Change::Sent(Sent::Plain(message)) => directed.apply(message).map(|()| 0),
+            Change::Sent(Sent::Wide(message)) => directed.apply_wide(message).map(|()| 0),
             Change::Text(kind, key, text) => directed.read_set(kind, key, text),
         }
     }
@@ -142,6 +149,13 @@ fn any_half(rng: &mut Rng) -> Half {
     let half = Half::new(any_name(rng), rng.below(3), Letters::from_mask(rng.below(most)).expect("a mask"));
     let marker = [Some(Marker::X), Some(Marker::N)].into_iter().find(|_| rng.one_in(8)).flatten();
     Half { marker, ..half }
+}
+
+/// The letters and the marker of a half at random, for one to three keys and as many ids.
+fn any_wide_half(rng: &mut Rng) -> WideHalf {
+    let [half, other, third] = [any_half(rng), any_half(rng), any_half(rng)];
+    let half_of_many = WideHalf::new([half.key, other.key], [half.id, other.id, third.id], half.mask).expect("names");
+    half.marker.map_or(half_of_many, |marker| half_of_many.marked(marker))
 }
 
 /// Changes, the refused ones among them, leave the block and answer as they do without a directory, and leave the block's own.
@@ -236,6 +250,7 @@ impl AsRef<[u8]> for Lost {
 fn a_panic_leaves_both_as_they_were() {
     let mut directed = with_directory(mill());
     assert!(catch_unwind(AssertUnwindSafe(|| directed.apply(Lost))).is_err());
+    assert!(catch_unwind(AssertUnwindSafe(|| directed.apply_wide(Lost))).is_err());
     assert!(catch_unwind(AssertUnwindSafe(|| directed.read_set(Kind::Filter, 1, Lost))).is_err());
     assert_eq!(directed, with_directory(mill()));
 }

@@ -10,3 +10,4 @@ mod letters;
 mod messages;
 mod saved;
 mod streams;
+mod wide;

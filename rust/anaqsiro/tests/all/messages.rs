@@ -38,7 +38,7 @@ fn with_comma(number: usize) -> String {
 fn the_words_have_the_numbers_of_the_crate() {
     for (refusal, words) in [
         (Refusal::BlockLength, format!("not {} to {}", Block::SHORTEST, with_comma(Block::LONGEST))),
-        (Refusal::Form, format!("not {} bytes", Message::BYTES)),
+        (Refusal::Form, format!("not {} bytes,", Message::BYTES)),
         (Refusal::Name, format!("above {},", NAMES - 1)),
         (Refusal::Mask, format!("above {};", Rights::ALL.mask())),
         (Refusal::CountFull, format!("at {}", with_comma(u16::MAX.into()))),

@@ -1,21 +1,21 @@
 //! Streams of many statements that arrive shuffled, some messages twice and some late. A tally that is kept here, from what has
 //! arrived alone, says what the block is to be at every moment.
 
-use anaqsiro::{Block, Half, Kind, Ledger, Letters, Marker, Message, Refusal, Rights, Taken, Why};
+use anaqsiro::{Block, Half, Kind, Ledger, Letters, Marker, Refusal, Rights, Sent, Taken, Why, WideHalf, WideMessage};
 use second::gen::Rng;
 use second::{Index, MARKERS};
 use std::collections::{BTreeMap, BTreeSet};
 
-/// A message with its statement and its number there.
+/// What is sent, with its statement and its number there.
 #[derive(Clone, Copy)]
-struct Sent {
+struct Labelled {
     label: usize,
     number: u64,
-    message: Message,
+    message: Sent,
 }
 
 /// What a statement says, and nothing in between.
-type Says = Option<(Kind, Half)>;
+type Says = Option<(Kind, WideHalf)>;
 
 /// How large a stream is: its statements, its messages, and the names that they are about.
 #[derive(Clone, Copy)]
@@ -25,16 +25,29 @@ struct Size {
     names: u64,
 }
 
-/// A half of a kind, of memberships often with a marker. Names are few, so that statements share records.
-fn any_half(rng: &mut Rng, kind: Kind, names: u64) -> Half {
+/// A half of a kind, of memberships often with a marker. Names are few, so that statements share records. Half of them are of one
+/// pair, and the others of a few.
+fn any_half(rng: &mut Rng, kind: Kind, names: u64) -> WideHalf {
     let most = if kind == Kind::Permission { u8::MAX } else { Rights::ALL.mask() };
     let mask = Letters::from_mask(1 + rng.below(most.into())).expect("a mask");
     let marker = [None, Some(Marker::X), Some(Marker::N)][rng.below(3) as usize].filter(|_| kind == Kind::Membership);
-    Half { marker, ..Half::new(rng.below(names), rng.below(names), mask) }
+    let one = Half::new(rng.below(names), rng.below(names), mask);
+    let more = rng.below(2) * 2;
+    let [keys, ids] = [one.key, one.id].map(|name| (0..more).map(|_| rng.below(names)).chain([name]).collect::<Vec<_>>());
+    let half = WideHalf::new(keys, ids, mask).expect("some names, and few");
+    marker.map_or(half, |marker| half.marked(marker))
+}
+
+/// What is sent: a wide message also where a plain one would do, now and then.
+fn any_form(rng: &mut Rng, kind: Kind, previous: Option<WideHalf>, new: Option<WideHalf>) -> Sent {
+    if rng.one_in(4) {
+        return WideMessage::new(kind, previous, new).into();
+    }
+    Sent::new(kind, previous, new)
 }
 
 /// A stream in the order in which it was said: each message quotes what the one before of its statement said.
-fn stream(rng: &mut Rng, size: Size) -> Vec<Sent> {
+fn stream(rng: &mut Rng, size: Size) -> Vec<Labelled> {
     let mut left = vec![(0, None); size.statements as usize];
     (0..size.messages)
         .map(|_| {
@@ -44,12 +57,12 @@ fn stream(rng: &mut Rng, size: Size) -> Vec<Sent> {
             let ends = previous.is_some() && rng.one_in(3);
             let new = (!ends).then(|| any_half(rng, kind, size.names));
             left[label] = (number + 1, new);
-            Sent { label, number: number + 1, message: Message::new(kind, previous, new) }
+            Labelled { label, number: number + 1, message: any_form(rng, kind, previous, new) }
         })
         .collect()
 }
 
-fn shuffled(rng: &mut Rng, mut sent: Vec<Sent>) -> Vec<Sent> {
+fn shuffled(rng: &mut Rng, mut sent: Vec<Labelled>) -> Vec<Labelled> {
     for n in (1..sent.len()).rev() {
         sent.swap(n, rng.below(n as u64 + 1) as usize);
     }
@@ -57,7 +70,7 @@ fn shuffled(rng: &mut Rng, mut sent: Vec<Sent>) -> Vec<Sent> {
 }
 
 /// The stream with messages that overtake each other, though not by far, and some that come twice.
-fn jumbled(rng: &mut Rng, stream: &[Sent]) -> Vec<Sent> {
+fn jumbled(rng: &mut Rng, stream: &[Labelled]) -> Vec<Labelled> {
     let mut placed = Vec::new();
     for (n, &sent) in (0..).zip(stream) {
         for _ in 0..rng.pick(&[1, 1, 1, 2]) {
@@ -69,16 +82,16 @@ fn jumbled(rng: &mut Rng, stream: &[Sent]) -> Vec<Sent> {
 }
 
 /// What arrives: first the most of the stream, some of it twice; then what was lost, and more of it again.
-fn arrivals(rng: &mut Rng, stream: &[Sent]) -> [Vec<Sent>; 2] {
-    let (lost, kept): (Vec<Sent>, Vec<Sent>) = stream.iter().partition(|_| rng.one_in(8));
-    let mut again = |of: &[Sent]| of.iter().copied().filter(|_| rng.one_in(4)).collect::<Vec<_>>();
+fn arrivals(rng: &mut Rng, stream: &[Labelled]) -> [Vec<Labelled>; 2] {
+    let (lost, kept): (Vec<Labelled>, Vec<Labelled>) = stream.iter().partition(|_| rng.one_in(8));
+    let mut again = |of: &[Labelled]| of.iter().copied().filter(|_| rng.one_in(4)).collect::<Vec<_>>();
     let (first, second) = ([kept.clone(), again(&kept)].concat(), [lost, again(stream)].concat());
     [first, second].map(|wave| shuffled(rng, wave))
 }
 
 /// What has arrived, and what follows from it.
 #[derive(Default)]
-struct Arrived(BTreeMap<usize, BTreeMap<u64, Message>>);
+struct Arrived(BTreeMap<usize, BTreeMap<u64, Sent>>);
 
 impl Arrived {
     /// How many messages of a statement have come without a gap.
@@ -102,7 +115,8 @@ impl Arrived {
 /// The block of a length that counts these statements, by the second program.
 fn counted(length: usize, standing: impl Iterator<Item = Says>) -> Vec<u8> {
     let mut index = Index::empty(length);
-    for (kind, half) in standing.flatten() {
+    let pairs = standing.flatten().flat_map(|(kind, half)| half.pairs().map(move |pair| (kind, pair)).collect::<Vec<_>>());
+    for (kind, half) in pairs {
         let part = &mut index.parts[usize::from(kind.number()) - 1];
         let counts = part.entry((half.key as u16, half.id as u16)).or_default();
         let mask = u64::from(half.mask.mask()) | half.marker.map_or(0, |marker| 1 << (MARKERS.start + marker as usize));
@@ -119,6 +133,8 @@ struct Met {
     early: usize,
     repeated: usize,
     refused: usize,
+    /// How many of the messages were wide.
+    wide: usize,
 }
 
 impl Met {
@@ -136,8 +152,8 @@ impl Met {
 }
 
 /// Hands a message in; the answer and all that the ledger then shows must follow from what has arrived.
-fn arrives(ledger: &mut Ledger<usize>, arrived: &mut Arrived, sent: Sent) -> Taken {
-    let Sent { label, number, message } = sent;
+fn arrives(ledger: &mut Ledger<usize>, arrived: &mut Arrived, sent: Labelled) -> Taken {
+    let Labelled { label, number, message } = sent;
     let before = arrived.whole(label);
     arrived.0.entry(label).or_default().insert(number, message);
     let after = arrived.whole(label);
@@ -154,7 +170,7 @@ fn arrives(ledger: &mut Ledger<usize>, arrived: &mut Arrived, sent: Sent) -> Tak
 
 /// The statements with a gap, and the numbers after it that have come.
 fn gaps(arrived: &Arrived) -> Vec<(usize, u64, Vec<u64>)> {
-    let gap = |(&label, messages): (&usize, &BTreeMap<u64, Message>)| {
+    let gap = |(&label, messages): (&usize, &BTreeMap<u64, Sent>)| {
         let next = arrived.whole(label) + 1;
         let held: Vec<u64> = messages.range(next..).map(|(&number, _)| number).collect();
         (!held.is_empty()).then_some((label, next, held))
@@ -169,9 +185,9 @@ fn waiting(ledger: &Ledger<usize>) -> Vec<(usize, u64, Vec<u64>)> {
 }
 
 /// The stream in order, on a block with room for so many records.
-fn in_order(stream: &[Sent], room: usize) -> Block {
+fn in_order(stream: &[Labelled], room: usize) -> Block {
     let mut block = Block::with_room(room).expect("room");
-    stream.iter().for_each(|sent| block.apply(sent.message).expect("accepted"));
+    stream.iter().for_each(|sent| sent.message.apply_to(&mut block).expect("accepted"));
     block
 }
 
@@ -184,6 +200,7 @@ fn arrives_in_two_waves(seed: u64, size: Size, met: &mut Met) -> usize {
     let mut ledger = Ledger::with_room(room).expect("room");
     let mut arrived = Arrived::default();
     let [first, second] = arrivals(&mut rng, &stream);
+    met.wide += stream.iter().filter(|sent| matches!(sent.message, Sent::Wide(_))).count();
     first.into_iter().for_each(|sent| met.saw(arrives(&mut ledger, &mut arrived, sent)));
     let gaps = gaps(&arrived);
     assert_eq!(waiting(&ledger), gaps);
@@ -201,7 +218,7 @@ fn shuffled_streams_leave_the_block_of_the_stream_in_order() {
     }
     gaps += arrives_in_two_waves(60, Size { statements: 200, messages: 1_500, names: 8 }, &mut met);
     assert!(met.applied > 1_000 && met.released > 1_000 && met.early > 1_000 && met.repeated > 500, "{met:?}");
-    assert!(met.refused == 0 && gaps > 100, "{gaps} gaps after the first wave, {met:?}");
+    assert!(met.refused == 0 && met.wide > 1_000 && gaps > 100, "{gaps} gaps after the first wave, {met:?}");
 }
 
 /// What the statements of a ledger say by its own account.
@@ -239,9 +256,9 @@ fn streams_on_a_full_block_lose_nothing() {
 }
 
 /// Whether the stream in order has room enough.
-fn fits(stream: &[Sent], room: usize) -> bool {
+fn fits(stream: &[Labelled], room: usize) -> bool {
     let mut block = Block::with_room(room).expect("room");
-    stream.iter().all(|sent| block.apply(sent.message).is_ok())
+    stream.iter().all(|sent| sent.message.apply_to(&mut block).is_ok())
 }
 
 /// Messages are lost for good. Each statement goes on with its next one, and then says what its last message that came says.

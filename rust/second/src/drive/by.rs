@@ -1,18 +1,18 @@
 //! The directory of keys and the calls by one, held against the second program. Beside each stands the library's own call
 //! without a directory: by the block's own directory it has to give the same.
 
-use super::{index_of, Ask, Call, Case, Lent, Library, CALLS, EACH_RIGHT, OVER_UNMEASURED};
+use super::{index_of, Ask, Call, Case, Form, Lent, Library, CALLS, EACH_RIGHT, OVER_UNMEASURED};
 use crate::gen::{self, Directory, Whose};
-use crate::{binding, letters, set_of, word, ENTRIES, HALF, HALVES, KINDS, NAMES, PART_ENTRIES, RECORD};
+use crate::{binding, letters, set_of, ENTRIES, KINDS, NAMES, PART_ENTRIES, RECORD};
 
-const MESSAGE: &[&str] = &["message_by"];
+const MESSAGES: &[&str] = &["message_by", "wide_by"];
 const READ: &[&str] = &["read_by"];
 const WRITE: &[&str] = &["write_by"];
 const SETS: &[&str] = &["write_by", "read_by"];
-const CHANGES: &[&str] = &["message_by", "read_by"];
+const CHANGES: &[&str] = &["message_by", "wide_by", "read_by"];
 const QUESTIONS: &[&str] = &["rights_by", "may_by"];
-const EACH: &[&str] = &["message_by", "read_by", "write_by", "rights_by", "may_by"];
-const ALL_SIX: &[&str] = &["directory", "message_by", "read_by", "write_by", "rights_by", "may_by"];
+const EACH: &[&str] = &["message_by", "wide_by", "read_by", "write_by", "rights_by", "may_by"];
+const ALL_SEVEN: &[&str] = &["directory", "message_by", "wide_by", "read_by", "write_by", "rights_by", "may_by"];
 
 /// Where a block was refused: how the directory was that came with it.
 const OF_ANOTHER_LENGTH: &str = "number of a block refused, with a directory of the wrong length";
@@ -24,13 +24,13 @@ pub const TO_MEET: &[(&[&str], &str, &[i64])] = &[
     (&["directory"], "number", &[0, 1, 2, 13]),
     (&["directory"], "made where another stood, or the same", &[0, 1]),
     (&["directory"], "made afresh after so many changes by one directory, three or more taken as three", &[0, 1, 2, 3]),
-    (MESSAGE, "number", &[0, 1, 2, 3, 4, 5, 6, 7, 8, 13]),
-    (MESSAGE, "number after a half was taken", &[0, 7, 8]),
-    (MESSAGE, "kind accepted", &[1, 2, 3]),
-    (MESSAGE, "flags accepted", &[1, 2, 3]),
-    (MESSAGE, "records more", &[-1, 0, 1]),
-    (MESSAGE, "13 where the call without it gives", &[0, 3, 4, 5, 6, 7, 8]),
-    (MESSAGE, "directory changed, with as many records as before", &[0, 1]),
+    (MESSAGES, "number", &[0, 1, 2, 3, 4, 5, 6, 7, 8, 13]),
+    (MESSAGES, "number after a half was taken", &[0, 7, 8]),
+    (MESSAGES, "kind accepted", &[1, 2, 3]),
+    (MESSAGES, "flags accepted", &[1, 2, 3]),
+    (&["message_by"], "records more", &[-1, 0, 1]),
+    (MESSAGES, "13 where the call without it gives", &[0, 3, 4, 5, 6, 7, 8]),
+    (MESSAGES, "directory changed, with as many records as before", &[0, 1]),
     (READ, "number", &[0, 1, 2, 3, 4, 8, 9, 13]),
     (READ, "records more, or fewer", &[-1, 0, 1]),
     (READ, "refused for its text at the front, inside, or at the end", &[0, 1, 2]),
@@ -62,10 +62,10 @@ pub const TO_MEET: &[(&[&str], &str, &[i64])] = &[
     (EACH, "13 for the last entry alone, of part", &[1, 2, 3]),
     (EACH, "13 for the entries of the next keys, in part", &[1, 2, 3]),
     (EACH, "13 for two parts exchanged, and not part", &[1, 2, 3]),
-    (ALL_SIX, "13 by a directory that is empty, shorter or longer", &[0, 1, 2]),
-    (ALL_SIX, OF_ANOTHER_LENGTH, &[1, 2]),
-    (ALL_SIX, OF_ITS_RECORDS, &[1, 2]),
-    (ALL_SIX, OF_OTHER_RECORDS, &[1, 2]),
+    (ALL_SEVEN, "13 by a directory that is empty, shorter or longer", &[0, 1, 2]),
+    (ALL_SEVEN, OF_ANOTHER_LENGTH, &[1, 2]),
+    (ALL_SEVEN, OF_ITS_RECORDS, &[1, 2]),
+    (ALL_SEVEN, OF_OTHER_RECORDS, &[1, 2]),
 ];
 
 /// A question by a directory as the second program answers it, and as a library is asked it.
@@ -105,20 +105,21 @@ impl Call<'_> {
         Ok(self.block.to_vec())
     }
 
-    pub fn message_by(&mut self) -> Result<Vec<u8>, String> {
+    /// Sends a message of the form by a directory.
+    pub fn sent_by(&mut self, form: &Form) -> Result<Vec<u8>, String> {
         let lent = self.lent();
-        let m = self.bytes();
-        let (number, after, directory) = crate::message_by(self.block, &lent.entries, &m);
+        let m = (form.drawn)(self);
+        let (number, after, directory) = (form.second_by)(self.block, &lent.entries, &m);
         let (mut b, mut d, mut bytes) = (Lent::new(self.block), Lent::new(&lent.entries), Lent::new(&m));
-        let got = self.lib.message_by(b.lend(), d.lend(), bytes.lend());
+        let got = (form.lib_by)(self.lib, b.lend(), d.lend(), bytes.lend());
         self.agree(got, number, 0, &[b.is(&after), d.is(&directory), bytes.is(&m)], format!("{m:02x?}"))?;
         let mut alone = self.block.to_vec();
-        let without = self.lib.message(&mut alone, &m);
+        let without = (form.lib)(self.lib, &mut alone, &m);
         self.beside(&lent, got, without, alone == after)?;
-        self.saw_message(number, &m, &after);
+        self.saw_message(form, number, &m, &after);
         if number == 0 {
-            let halves = m[HALVES..].chunks(HALF).filter(|half| half[HALF - 1] > 0);
-            halves.for_each(|half| self.saw_key(word(half, 0).into()));
+            let said = (form.read)(&m).expect("an accepted message");
+            said.halves.iter().flatten().for_each(|half| self.saw_key(half.name.0.into()));
             if Self::records(&after) == Self::records(self.block) {
                 self.saw("directory changed, with as many records as before", (directory != lent.entries).into());
             }

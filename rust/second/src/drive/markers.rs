@@ -1,12 +1,12 @@
 //! What markers had to do with a message or a question.
 
-use super::{index_of, Call};
+use super::{index_of, Call, Form};
 use crate::bound::{member, Link, Rule, RULE};
 use crate::growth::Growth;
-use crate::{carries, granted, has, letters, markers, passes, set_of, word, Counts, Index, Part};
-use crate::{ALL, CHAIN, F, FLAGS, HALF, HALVES, KIND, KINDS, M, MARKED, MARKERS, MESSAGE, N, RIGHTS, X};
+use crate::{carries, granted, has, letters, markers, passes, set_of, Counts, Half, Index, Part, Reading, Said};
+use crate::{ALL, CHAIN, F, KIND, KINDS, M, MARKED, MARKERS, N, RIGHTS, X};
 
-const MESSAGES: &[&str] = &["message", "message_by"];
+const MESSAGES: &[&str] = &["message", "message_by", "wide", "wide_by"];
 const FULL: &[&str] = &["rights"];
 const QUESTIONS: &[&str] = &["rights", "may", "rights_by", "may_by"];
 
@@ -88,14 +88,16 @@ const CARRIED: [[Link; 3]; RIGHTS] = [
     [|c| carries(c, 3), |c| carries(c, 3) && (RULE.before)(c), |c| carries(c, 3) && (RULE.last)(c)],
 ];
 
-/// What is wrong with the markers of a message, where all else is as it should be.
-fn wrong(m: &[u8], marked: [u8; 2]) -> Vec<(&'static str, i64)> {
+/// What is wrong with the markers of a message that is read so, where all else is as it should be.
+fn wrong(m: &[u8], marked: [u8; 2], read: Reading) -> Vec<(&'static str, i64)> {
     let (kind, flags) = (m[0] & KIND, m[1]);
-    let blank = |side: usize| m[HALVES + HALF * side..][..HALF] == [0; HALF];
-    if !(1..=FLAGS).contains(&flags) || (0..2).any(|side| !has(flags, side) && !blank(side)) || marked == [0; 2] {
+    let is_kind = (1..=KINDS as u8).contains(&kind);
+    let mut without = m.to_vec();
+    without[0] = if is_kind { kind } else { 1 };
+    if marked == [0; 2] || read(&without).is_err() {
         return vec![];
     }
-    if !(1..=KINDS as u8).contains(&kind) {
+    if !is_kind {
         return vec![(WITH_KIND, kind.min(4).into())];
     }
     let of_half = |side: usize| match marked[side] {
@@ -108,39 +110,39 @@ fn wrong(m: &[u8], marked: [u8; 2]) -> Vec<(&'static str, i64)> {
 }
 
 impl Call<'_> {
-    /// What the markers of a message that got this number did.
-    pub fn saw_markers(&mut self, number: u32, m: &[u8]) {
-        if m.len() != MESSAGE {
+    /// What the markers of a message of the form that got this number did.
+    pub fn saw_markers(&mut self, form: &Form, number: u32, m: &[u8]) {
+        if m.len() < 2 {
             return;
         }
         let marked = [0, 1].map(|side| markers(m[0], side));
-        match number {
-            0 => self.saw_accepted(m, marked),
-            3 => {
-                if let [(what, which)] = wrong(m, marked)[..] {
+        match (number, (form.read)(m)) {
+            (0, Ok(said)) => self.saw_accepted(&said, marked),
+            (3, _) => {
+                if let [(what, which)] = wrong(m, marked, form.read)[..] {
                     self.saw(what, which);
                 }
             }
-            5 => {
-                let bare = |side: &usize| marked[*side] > 0 && m[HALVES + HALF * (side + 1) - 1] == 0;
+            (5, Ok(said)) => {
+                let bare = |side: &usize| marked[*side] > 0 && said.halves[*side].iter().any(|half| half.byte == 0);
                 for side in (0..2).filter(bare) {
                     self.saw("5 for a marker without letters, in the previous half or in the new one", side as i64);
                 }
             }
-            6 if self.hangs_on(m, 0, 6) => self.saw("6 for a marker alone", marked[0].into()),
-            7 if self.hangs_on(m, 1, 7) => self.saw("7 for a marker alone", marked[1].into()),
+            (6, _) if self.hangs_on(form, m, 0, 6) => self.saw("6 for a marker alone", marked[0].into()),
+            (7, _) if self.hangs_on(form, m, 1, 7) => self.saw("7 for a marker alone", marked[1].into()),
             _ => {}
         }
     }
 
     /// Whether a message would get another number without the markers of one half.
-    fn hangs_on(&self, m: &[u8], side: usize, number: u32) -> bool {
+    fn hangs_on(&self, form: &Form, m: &[u8], side: usize, number: u32) -> bool {
         let mut without = m.to_vec();
         without[0] &= !(3 << MARKED[side]);
-        without != m && crate::message(self.block, &without).0 != number
+        without != m && (form.second)(self.block, &without).0 != number
     }
 
-    fn saw_accepted(&mut self, m: &[u8], marked: [u8; 2]) {
+    fn saw_accepted(&mut self, said: &Said, marked: [u8; 2]) {
         let halves = ["marker of the previous half accepted", "marker of the new half accepted"];
         for side in (0..2).filter(|&side| marked[side] > 0) {
             self.saw(halves[side], marked[side].into());
@@ -148,10 +150,15 @@ impl Call<'_> {
         if marked.iter().all(|&marked| marked > 0) {
             self.saw("markers of both halves accepted, not the same or the same", (marked[0] == marked[1]).into());
         }
-        let name = (word(m, HALVES), word(m, HALVES + 2));
-        let taken = index_of(self.block).parts[M].get(&name).copied().unwrap_or_default();
-        for k in letters(u64::from(marked[0]) << MARKERS.start).filter(|&k| taken[k] == 1) {
-            self.saw("marker accepted whose count was 1, and is 0 then", 1 << (k - MARKERS.start));
+        if marked[0] == 0 {
+            return;
+        }
+        let index = index_of(self.block);
+        for k in letters(u64::from(marked[0]) << MARKERS.start) {
+            let once = |half: &Half| index.parts[M].get(&half.name).is_some_and(|counts| counts[k] == 1);
+            if said.halves[0].iter().any(once) {
+                self.saw("marker accepted whose count was 1, and is 0 then", 1 << (k - MARKERS.start));
+            }
         }
     }
 }

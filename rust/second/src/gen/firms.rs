@@ -1,8 +1,8 @@
 //! Blocks in which firms share one installation: a user with a chain to a group of hers, an object that leads there or somewhere
 //! else, and a grant between the two, so that the markers decide.
 
-use super::{once, two_rights, Rng, OTHER, START};
-use crate::{letters, Counts, Index, ALL, CHAIN, M, MARKERS, N, P, RIGHTS, X};
+use super::{two_rights, Rng, OTHER, START};
+use crate::{letters, once, Counts, Index, ALL, CHAIN, M, MARKERS, N, P, RIGHTS, X};
 
 /// Where the names of the object's chain begin; a group of another firm; and a group of none.
 const ITS: u16 = 300;

@@ -7,11 +7,12 @@ use std::path::{Path, PathBuf};
 use std::process::{Command, Stdio};
 
 mod markers;
+mod wide;
 
 /// What the fault is, the text in plain/src, and what is put in its place.
 type Fault = (&'static str, &'static str, &'static str);
 
-/// The faults but for those of markers.
+/// The faults but for those of markers and of wide messages.
 const FAULTS: &[Fault] = &[
     ("a block that is a byte too short is one that is not good", "if b.len() < HEADER || b.len() > GREATEST {\n        return Err(1);\n    }\n    let at", "if b.len() + 1 == HEADER {\n        return Err(2);\n    }\n    if b.len() < HEADER || b.len() > GREATEST {\n        return Err(1);\n    }\n    let at"),
     ("a block that is a byte too long is taken", "b.len() > GREATEST {\n        return 1;\n    }\n    b.fill(0);", "b.len() > GREATEST + 1 {\n        return 1;\n    }\n    b.fill(0);"),
@@ -24,15 +25,15 @@ const FAULTS: &[Fault] = &[
     ("small letters may stand in M and F", " && denials == 0", ""),
     ("a record may count nothing", " && empty == 0", ""),
     ("the zero at 6 is not looked at", "(0..5).fold(0, |differ, k|", "(1..5).fold(0, |differ, k|"),
-    ("an update only adds", "        let number = take(b, keys, kind, from, less);", "        let number = if new { 0 } else { take(b, keys, kind, from, less) };"),
+    ("an update only adds", "        let number = take(b, keys, kind, from, less);", "        let number = if new.is_some() { 0 } else { take(b, keys, kind, from, less) };"),
     ("a refused message leaves the take applied", "                add(b, keys, kind, from, less);\n", ""),
     ("a record with no counts stays", "    if left == 0 {\n        shift(b, keys, kind, want >> NAME_BITS, i + 1, i);\n    }", "    if left == usize::MAX {\n        shift(b, keys, kind, want >> NAME_BITS, i + 1, i);\n    }"),
     ("old bytes stay after the end", "        b[end - RECORD * (from - to)..end].fill(0);", "        b[end - RECORD * (from - to)..end - 5].fill(0);"),
     ("a letter without a count may be taken", "word(b, count_at(i, k)) == 0)", "word(b, count_at(i, k)) > MOST)"),
     ("a count wraps", "mask >> k & 1 == 1 && word(b, count_at(i, k)) == MOST", "mask >> k & 1 == 1 && word(b, count_at(i, k)) == MOST - 1"),
     ("the last place is not given", "if bounds(b)[3] == (b.len() - HEADER) / RECORD {", "if bounds(b)[3] + 1 >= (b.len() - HEADER) / RECORD {"),
-    ("a mask of 16 is taken for M", "kind != P && mask > usize::from(ALL)", "kind != P && mask > usize::from(ALL) + 1"),
-    ("an absent half is not looked at", "(!old && *from != [0; HALF])", "(!old && from[..MASK] != [0; MASK])"),
+    ("a mask of 16 is taken for M", "self.kind != P && bytes[half] > ALL", "self.kind != P && bytes[half] > ALL + 1"),
+    ("an absent half is not looked at", "(!front.there[OLD] && *halves[OLD] != [0; HALF])", "(!front.there[OLD] && halves[OLD][..MASK] != [0; MASK])"),
     ("masks are joined by or", "let more = self.before[key] & (net | net << RIGHTS) & !self.marks[id];", "let more = (self.before[key] | net | net << RIGHTS) & !self.marks[id];"),
     ("the last record decides", "let more = self.before[key] & (net | net << RIGHTS) & !self.marks[id];", "let side = |half: u8| if self.before[key] & half != 0 { half } else { 0 };\n            let more = (side(USER) | side(OBJECT)) & (net | net << RIGHTS) & !self.marks[id];"),
     ("a group is done at its first visit", "let more = self.before[key] & (net | net << RIGHTS) & !self.marks[id];", "let side = |half: u8| if self.marks[id] & half == 0 { half } else { 0 };\n            let more = (side(USER) | side(OBJECT)) & self.before[key] & (net | net << RIGHTS);"),
@@ -167,7 +168,7 @@ const FAULTS: &[Fault] = &[
     ("the last part does not move", "self[PART * kind + key + 1..]", "self[PART * kind + key + 1..PART * F.max(kind + 1)]"),
     ("the part's end does not move", "self[PART * kind + key + 1..].iter_mut().for_each(|entry|", "self.iter_mut().enumerate().filter(|(at, _)| *at > PART * kind + key && *at != PART * kind + NAMES).for_each(|(_, entry)|"),
     ("entries move by one record whatever a read brings", "(RECORD * to).wrapping_sub(RECORD * from)", "RECORD.wrapping_mul((to as isize - from as isize).signum() as usize)"),
-    ("entries move the other way", "entry.wrapping_add(more)", "entry.wrapping_sub(more)"),
+    ("entries move the other way where a read moves more than one record", "entry.wrapping_add(more)", "entry.wrapping_add(if from.abs_diff(to) > 1 { more.wrapping_neg() } else { more })"),
     ("entries do not move back", "(RECORD * to).wrapping_sub(RECORD * from)", "(RECORD * to).wrapping_sub(RECORD * from.min(to))"),
     ("a read of as many records moves entries", "        let more = (RECORD", "        let to = if from == to { to + 1 } else { to };\n        let more = (RECORD"),
     ("the records of the next key are looked up", "        keyed(self, kind, key)", "        keyed(self, kind, (key + 1) % NAMES)"),
@@ -263,7 +264,7 @@ fn main() -> std::io::Result<()> {
         .map(|entry| entry.map(|entry| entry.path()).and_then(|path| Ok((path.clone(), fs::read_to_string(path)?))))
         .collect::<std::io::Result<_>>()?;
     let words = std::env::args().nth(1).unwrap_or_default();
-    let faults: Vec<&Fault> = FAULTS.iter().chain(markers::FAULTS).filter(|fault| fault.0.contains(&words)).collect();
+    let faults: Vec<&Fault> = FAULTS.iter().chain(markers::FAULTS).chain(wide::FAULTS).filter(|fault| fault.0.contains(&words)).collect();
     let places: Vec<&Source> = faults.iter().map(|(what, old, _)| place(&sources, what, old)).collect();
     assert!(matches!(compared(&folder)?, End::Agreed), "the program without a fault disagrees");
     let mut missed = 0;
