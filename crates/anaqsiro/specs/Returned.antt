@@ -29,7 +29,7 @@ MakeReturns b r b′ = Returned (λ n v. (v ≡ 0) × Makes b (n, b′)) r
 
 -- A message, plain or wide (M-100).
 unfoldable pub SendsReturns : List ℕ → Sent → ℕ → List ℕ → Type 0
-SendsReturns b s r b′ = Returned (λ n v. (v ≡ 0) × Sends b s (n, b′)) r
+SendsReturns b m r b′ = Returned (λ n v. (v ≡ 0) × Sends b m (n, b′)) r
 
 abbrev pub MessageReturns : List ℕ → List ℕ → ℕ → List ℕ → Type 0
 MessageReturns b m r b′ = SendsReturns b (plain m) r b′
@@ -67,7 +67,7 @@ unfoldable pub DirectoryReturns : List ℕ → List ℕ → ℕ → List ℕ →
 DirectoryReturns b d r d′ = Returned (λ n v. (v ≡ 0) × MakesDirectory b d (n, d′)) r
 
 unfoldable pub SendsByReturns : List ℕ → List ℕ → Sent → ℕ → List ℕ → List ℕ → Type 0
-SendsByReturns b d s r b′ d′ = Returned (λ n v. SendsBy b d s (n, v, b′, d′)) r
+SendsByReturns b d m r b′ d′ = Returned (λ n v. SendsBy b d m (n, v, b′, d′)) r
 
 abbrev pub MessageByReturns : List ℕ → List ℕ → List ℕ → ℕ → List ℕ → List ℕ → Type 0
 MessageByReturns b d m r b′ d′ = SendsByReturns b d (plain m) r b′ d′

@@ -35,7 +35,7 @@ KeptBy b d Call o = By b d (λ n. (n, 0, b, d)) (λ o. Call (o .0, o .1, o .2) �
 
 -- A message, plain or wide: it has the value 0.
 unfoldable pub SendsBy : List ℕ → List ℕ → Sent → (ℕ × ℕ × List ℕ × List ℕ) → Type 0
-SendsBy b d s o = KeptBy b d (λ o. (o .1 ≡ 0) × Sends b s (o .0, o .2)) o
+SendsBy b d m o = KeptBy b d (λ o. (o .1 ≡ 0) × Sends b m (o .0, o .2)) o
 
 -- message_by
 abbrev pub MessageBy : List ℕ → List ℕ → List ℕ → (ℕ × ℕ × List ℕ × List ℕ) → Type 0

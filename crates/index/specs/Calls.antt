@@ -37,12 +37,12 @@ Makes b o = First (λ n. (n, b)) (makeNeeds b) (Made b) o
 -- here the latter; 5: "a present half's mask 0, or above 15 for M or F"; then 6, 7 and 8 of its steps. M-100: "then 4 and 5; then the first
 -- of 6, 7 or 8 met in pair order".
 unfoldable pub sentNeeds : List ℕ → Sent → List (ℕ × Type 0)
-sentNeeds b s =
+sentNeeds b m =
     blockNeeds b
-    ++ ((3, FormedOf s) ∷ (4, Each Named (previousOf s ++ newOf s)) ∷ (5, Each Masked (previousOf s ++ newOf s)) ∷ [])
+    ++ ((3, FormedOf m) ∷ (4, Each Named (previousOf m ++ newOf m)) ∷ (5, Each Masked (previousOf m ++ newOf m)) ∷ [])
 
 unfoldable pub Sends : List ℕ → Sent → (ℕ × List ℕ) → Type 0
-Sends b s o = First (λ n. (n, b)) (sentNeeds b s) (Carried b (changes (previousOf s) (newOf s)) b) o
+Sends b m o = First (λ n. (n, b)) (sentNeeds b m) (Carried b (changes (previousOf m) (newOf m)) b) o
 
 -- message: 3 is "message not 12 bytes, or kind, flags or an absent half wrong", and M-107: "both markers in one half, a marker on an absent
 -- half or on kinds 2 and 3 is 3".

@@ -69,6 +69,7 @@ pub record WideFormed (m : List ℕ) : Type 0 where
   -- "An absent half has lengths and mask zero."
   pub absent : (h : ℕ) → h < halfCount → present m h ≡ false
       → (listLength m (2 * h) ≡ 0) × (listLength m (2 * h + 1) ≡ 0) × (maskIn m h ≡ 0)
+  -- "a present half's list"
   pub lists : (h : ℕ) → h < halfCount → present m h ≡ true → ListGood m (2 * h) × ListGood m (2 * h + 1)
 
 -- ---- its halves
@@ -96,10 +97,10 @@ halvesOf (wide m) h = wideHalves m h
 
 -- "All of the previous half is taken away, then all of the new added": `changes` of these two.
 abbrev pub previousOf : Sent → List Half
-previousOf s = halvesOf s 0
+previousOf m = halvesOf m 0
 
 abbrev pub newOf : Sent → List Half
-newOf s = halvesOf s 1
+newOf m = halvesOf m 1
 
 -- What 3 asks of it.
 abbrev pub FormedOf : Sent → Type 0
