@@ -11,9 +11,16 @@ ghost use Rattle.index.specs.Wide.{wideHeader, listCount, listLength, li
 ghost use Rattle.index.specs.work.Checks.{Says};
 ghost use Rattle.index.specs.work.Pairing.{InPlace};
 
-// How many bytes the header has, how many lists there are, and how many names a list may have.
+// How many bytes the header has, and where the lengths of the lists, the masks of the halves and the offsets of the lists stand in it.
 pub(crate) const FRONT: usize = 16;
 
+const LENGTHS: usize = 2;
+
+pub(crate) const MASKS: usize = 6;
+
+const OFFSETS: usize = 8;
+
+// How many lists there are, and how many names a list may have.
 const LISTS: usize = 4;
 
 pub(crate) const LONGEST: usize = 8;
@@ -23,7 +30,7 @@ pub(crate) fn length_at(m: &[u8], q: usize) -> usize
     requires { ⌜ (wideHeader ≤ length (now m)) × (q < listCount) ⌝ }
     ensures { λ r. ⌜ (r ≡ listLength (now (m .entry)) q) × (r < 256) ⌝ }
 {
-    m[2 + q] as usize
+    m[LENGTHS + q] as usize
 }
 
 // Where list q begins, as the header says.
@@ -31,7 +38,7 @@ pub(crate) fn offset_at(m: &[u8], q: usize) -> usize
     requires { ⌜ (wideHeader ≤ length (now m)) × (q < listCount) ⌝ }
     ensures { λ r. ⌜ (r ≡ listOffset (now (m .entry)) q) × (r < 65536) ⌝ }
 {
-    number_at(m, 8 + 2 * q)
+    number_at(m, OFFSETS + 2 * q)
 }
 
 // The lists follow each other without gaps, up to the end of the message.

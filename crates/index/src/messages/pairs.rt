@@ -7,6 +7,7 @@ use crate::messages::beginning::kind_in;
 use crate::messages::halves::Half;
 use crate::messages::halves::mask_with;
 use crate::messages::names::LONGEST;
+use crate::messages::names::MASKS;
 use crate::messages::names::length_at;
 use crate::messages::names::offset_at;
 use crate::messages::run::pack;
@@ -35,7 +36,7 @@ pub(crate) fn pair_with(m: &[u8], h: usize, x: usize, y: usize) -> Half
         kind: kind_in(m),
         x,
         y,
-        mask: mask_with(m, h, m[6 + h]),
+        mask: mask_with(m, h, m[MASKS + h]),
     }
 }
 

@@ -7,6 +7,7 @@ use crate::messages::beginning::begun;
 use crate::messages::beginning::is_present;
 use crate::messages::halves::is_masked;
 use crate::messages::names::FRONT;
+use crate::messages::names::MASKS;
 use crate::messages::names::all_names;
 use crate::messages::names::in_place;
 use crate::messages::names::length_at;
@@ -42,7 +43,7 @@ fn half_formed(m: &[u8], h: usize) -> bool
     if length_at(m, ids) != 0 {
         return false;
     }
-    m[6 + h] == 0
+    m[MASKS + h] == 0
 }
 
 // The header, the length and the lists are right.
