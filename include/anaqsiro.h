@@ -93,7 +93,7 @@ extern "C" {
  * anaqsiro_get_wide_half read it. */
 #define ANAQSIRO_WIDE_LENGTHS_AT 2u
 #define ANAQSIRO_WIDE_MASKS_AT 6u
-#define ANAQSIRO_WIDE_STARTS_AT 8u
+#define ANAQSIRO_WIDE_OFFSETS_AT 8u
 #define ANAQSIRO_WIDE_HEADER 16u
 #define ANAQSIRO_LIST_MAX 8u
 #define ANAQSIRO_WIDE_MAX (ANAQSIRO_WIDE_HEADER + 4u * ANAQSIRO_LIST_MAX * 2u)
@@ -427,7 +427,7 @@ struct anaqsiro_wide_half {
 static inline size_t anaqsiro_put_list(uint8_t *message, size_t number, size_t begins, const uint64_t *names, uint64_t how_many) {
     const size_t written = how_many > ANAQSIRO_LIST_MAX ? 0u : (size_t)how_many;
     message[ANAQSIRO_WIDE_LENGTHS_AT + number] = (uint8_t)(how_many > ANAQSIRO_LIST_MAX ? ANAQSIRO_LIST_MAX + 1u : how_many);
-    anaqsiro_put_name(message + ANAQSIRO_WIDE_STARTS_AT + 2u * number, begins);
+    anaqsiro_put_name(message + ANAQSIRO_WIDE_OFFSETS_AT + 2u * number, begins);
     for (size_t i = 0; i < written; i++) {
         anaqsiro_put_name(message + begins + 2u * i, names[i]);
     }
@@ -499,7 +499,7 @@ static inline struct anaqsiro_wide_half anaqsiro_widened(struct anaqsiro_half ha
  * where it is too long, or not all of it stands in the message. */
 static inline uint64_t anaqsiro_get_list(const uint8_t *message, size_t message_len, size_t number, uint64_t *names) {
     const size_t how_many = message[ANAQSIRO_WIDE_LENGTHS_AT + number];
-    const size_t begins = (size_t)anaqsiro_get_name(message + ANAQSIRO_WIDE_STARTS_AT + 2u * number);
+    const size_t begins = (size_t)anaqsiro_get_name(message + ANAQSIRO_WIDE_OFFSETS_AT + 2u * number);
     if (how_many > ANAQSIRO_LIST_MAX || begins + 2u * how_many > message_len) {
         return 0;
     }

@@ -49,7 +49,7 @@ Sends b m o = First (λ n. (n, b)) (sentNeeds b m) (Carried b (changes (previous
 abbrev pub Message : List ℕ → List ℕ → (ℕ × List ℕ) → Type 0
 Message b m o = Sends b (plain m) o
 
--- wide: 3 is "a wrong header or length, or a present half's list that is empty, too long or not strictly rising", and the markers as in a
+-- wide: 3 is, M-100: "a wrong header or length, or a present half's list that is empty, too long or not strictly rising", and the markers as in a
 -- plain message.
 abbrev pub Wide : List ℕ → List ℕ → (ℕ × List ℕ) → Type 0
 Wide b m o = Sends b (wide m) o

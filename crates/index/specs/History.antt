@@ -50,7 +50,7 @@ pub data History : List ℕ → List Statement → List Labelled → List ℕ �
       → Sends b (m .sent) (r, b) → History b s ms b′ s′ → History b s (m ∷ ms) b′ s′
 
 -- "the number of statements standing at that moment with that record and that letter". M-100: "a wide statement counts once in each of its
--- pairs".
+-- pairs". (The pairs of an accepted message are all different, so that it counts in none twice: laws/demands/Pairs.)
 unfoldable pub movesOf : List Half → Kind → ℕ → ℕ → ℕ → ℕ
 movesOf [] kind x y k = 0
 movesOf (h ∷ hs) kind x y k = moves h kind x y k + movesOf hs kind x y k

@@ -33,10 +33,10 @@ maskIn m h = getD m (6 + h) 0
 unfoldable pub listOffset : List ℕ → ℕ → ℕ
 listOffset m q = number m (8 + 2 * q)
 
--- "the lists of 16-bit names": n names from byte i on; and list q, which begins at its offset.
+-- "the lists of 16-bit names": n names from byte j on; and list q, which begins at its offset.
 unfoldable pub namesFrom : List ℕ → ℕ → ℕ → List ℕ
-namesFrom m i zero = []
-namesFrom m i (suc n) = number m i ∷ namesFrom m (i + 2) n
+namesFrom m j zero = []
+namesFrom m j (suc n) = number m j ∷ namesFrom m (j + 2) n
 
 unfoldable pub names : List ℕ → ℕ → List ℕ
 names m q = namesFrom m (listOffset m q) (listLength m q)
@@ -79,7 +79,7 @@ unfoldable pub pairs : Kind → ℕ → List ℕ → List ℕ → List Half
 pairs kind mask [] ys = []
 pairs kind mask (x ∷ xs) ys = map (λ y. record { kind = kind; key = x; id = y; mask = mask }) ys ++ pairs kind mask xs ys
 
--- Half h, pair by pair. M-107: "Wide messages and appointments carry markers", in the kind byte as a plain one does.
+-- Half h, pair by pair. M-107: "Wide messages and appointments carry markers", in the kind byte as plain ones do.
 unfoldable pub wideHalves : List ℕ → ℕ → List Half
 wideHalves m h = pairs (kindOf (kindIn m)) (maskWith m h (maskIn m h)) (names m (2 * h)) (names m (2 * h + 1))
 

@@ -62,7 +62,7 @@ pub const GREATEST: usize = HEADER + RECORD * ROOM;
 
 pub const ROOM: usize = 2048;
 
-// How many bytes a message has: kind, flags, and two halves.
+// How many bytes a plain message has: kind, flags, and two halves.
 pub const MESSAGE: usize = 12;
 
 // What a record says. Membership: the key is a member of the group id. Permission: id is granted or denied rights on

@@ -22,7 +22,7 @@ use Rattle.directory.proofs.Keeping.{Left, Valued}
 use Rattle.directory.proofs.KeptTrue.{sent-by-true}
 use Rattle.rights.specs.Questions.{unreported, FullBy, ShortBy}
 use Rattle.tight.specs.Blocks.{zeros, absent, several, nothing, reads, give}
-use Rattle.tight.specs.Examples.{ring, twoRecords, twoText, lot, giveFour, readers}
+use Rattle.tight.specs.Examples.{ring, twoRecords, twoText, lot, giveFour, withdrawFour, readers}
 use Rattle.tight.specs.Programs.{Program, Meets, RefusesEverything, AnswersTheSame, ChangesNothing, LeavesBehind, TakesAny, OnceForAll, LeavesHalfDone, OnlyTheFirst, Handed, MakesUpCounts}
 use Rattle.tight.proofs.Programs as does
 use Rattle.tight.proofs.ByDirectory.{sent-lent, left-good, read-lent, write-lent, full-lent, short-lent, questions-lent, not-lent, made-directory, not-made, fine-nothing, fine-one, two-owns, owned-nine}
@@ -266,10 +266,13 @@ module _ (p : Program) (meets : Meets p) where
 
   pub not-only-first : OnlyTheFirst p → ⊥
   unfolding number
-  not-only-first accepts =
+  not-only-first (OnlyTheFirst.messages accepts) =
       let same : _≡_ {A = ℕ × List ℕ} (0, reads 2) (0, reads 1) =
-      sym (does.does p meets second-given) ∙ accepts (reads 1) (plain give) (omega arith) in
+      sym (does.does p meets second-given) ∙ accepts (reads 1) give (omega arith) in
       omega (arith, ap (λ (o : ℕ × List ℕ). getD (o .1) 22 0) same)
+  not-only-first (OnlyTheFirst.wides accepts) =
+      let same = sym (does.does p meets (wides-right .1 .1 .0)) ∙ accepts _ withdrawFour (omega arith) in
+      omega (arith, ap (λ (o : ℕ × List ℕ). getD (o .1) 2 0) same)
 
   -- "One that stores made-up counts, say 1 for any: demand 3's second half."
   pub not-made-up : MakesUpCounts p → ⊥

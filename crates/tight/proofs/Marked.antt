@@ -9,16 +9,18 @@ use lib.Dec.{eqb}
 use Rattle.index.specs.declared.Kind.the-variants.{Membership, Permission, Filter}
 use Rattle.index.specs.Letters.{markerX, mayHave}
 use Rattle.index.specs.Block.{number, countAt, countFrom, count}
-use Rattle.index.specs.Wide.Sent.{plain}
+use Rattle.index.specs.Wide.Sent.{wide}
+use Rattle.index.specs.Calls.{Sends}
 use Rattle.index.proofs.laws.Firsts.{first-all}
 use Rattle.index.proofs.laws.Tests.{all, all-at}
 use Rattle.index.proofs.laws.block.Masks.{in-zero, in-all}
 use Rattle.rights.specs.Questions.{questionNeeds, Limited, HoldsAll, Full, Short}
 use Rattle.rights.proofs.laws.questions.OneAnswer.{accepted-full}
 use Rattle.tight.specs.Blocks.{once, block, nothing}
-use Rattle.tight.specs.Examples.{giveX}
+use Rattle.tight.specs.Examples.{member, giveX, giveWideX}
 use Rattle.tight.specs.Programs.{Program, Meets, SameLetters, IgnoresMarkers, KeepsMarkers}
 use Rattle.tight.proofs.Mill.{x-given}
+use Rattle.tight.proofs.Starred.{wides-right}
 use Rattle.tight.proofs.Programs.{does, answers, says}
 use Rattle.tight.proofs.RightsTest.{rights-test}
 
@@ -66,6 +68,9 @@ yes-answer =
     first-all _ _ (0, 1) (questionNeeds (firm 15) 1 32 15) (q .0)
     (refl, omega arith, ((λ e k l i. q .1 .1 .1 k l .0 (in-all k l) .0), (λ all. refl)))
 
+wide-x : Sends nothing (wide giveWideX) (0, member 1 1 0)
+wide-x = wides-right .1 .1 .1 .1 .1 .1 .1 .1 .0
+
 module _ (p : Program) (meets : Meets p) where
   pub heeds-markers : IgnoresMarkers p → ⊥
   heeds-markers (IgnoresMarkers.full same) =
@@ -77,6 +82,9 @@ module _ (p : Program) (meets : Meets p) where
 
   pub takes-markers : KeepsMarkers p → ⊥
   unfolding number countAt countFrom count
-  takes-markers keeps =
-      let e = rw (does p meets x-given) at (keeps nothing (plain giveX) 1 10 markerX (omega arith) (omega arith)) in
+  takes-markers (KeepsMarkers.messages keeps) =
+      let e = rw (does p meets x-given) at (keeps nothing giveX 1 10 markerX (omega arith) (omega arith)) in
+      omega (arith, e)
+  takes-markers (KeepsMarkers.wides keeps) =
+      let e = rw (does p meets wide-x) at (keeps nothing giveWideX 1 10 markerX (omega arith) (omega arith)) in
       omega (arith, e)

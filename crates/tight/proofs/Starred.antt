@@ -12,7 +12,7 @@ use Rattle.index.specs.Message as message
 use Rattle.index.specs.Wide.{listLength, maskIn, listOffset, namesFrom, names, listPlace, Rising, WideFormed, pairs, wideHalves}
 use Rattle.index.specs.Text.{digitsOf, decimal, pieceOf, piecesOf, entryText, textOf, countsFrom, countsAt, setFrom, setOf}
 use Rattle.index.specs.work.Reading.{digit, reaches, readDigits, readNumber, readCount, readLetter, readCounts, readMark, readRecord, readMore, readRecords, parse}
-use Rattle.tight.specs.Blocks.{twos, once, block, takesX, giving, absent, several, nothing, reads}
+use Rattle.tight.specs.Blocks.{twos, once, block, takesX, giving, absent, several, nothing, reads, give}
 use Rattle.tight.specs.Examples.{Case, Shows, granted, masks, texts, places, chains, examined, appointments, limits, member, markers, firms, lot, four, giveFour, reader, readers, wides, cases}
 use Rattle.index.proofs.laws.message.Halves.{differ}
 use Rattle.tight.proofs.CaseTest.{all-mean}
@@ -156,6 +156,9 @@ not-absent = (
   (λ w. omega (arith, w .absent 0 (omega arith) refl .2)),
 )
 
+too-short : WideFormed give → ⊥
+too-short w = omega (arith, w .header)
+
 too-long : WideFormed (giveFour ++ (0 ∷ [])) → ⊥
 unfolding listLength listPlace
 too-long w = omega (arith, w .ends)
@@ -205,15 +208,16 @@ wides-right =
       refl,
     )
     and (reads 1 ∷ [], refl, refl)
+    and (member 1 1 0 ∷ [], refl, refl)
     and (refl, no-list)
     and (refl, nine-ids)
     and (refl, not-rising .0)
     and (refl, not-rising .1)
     and (refl, not-absent .0)
     and (refl, not-absent .1)
+    and (refl, too-short)
     and (refl, too-long)
     and (refl, no-offset)
-    and (member 1 1 0 ∷ [], refl, refl)
     and tt)
 
 -- A table with what it says; and one more table before it.

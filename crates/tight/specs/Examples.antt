@@ -322,6 +322,10 @@ withdrawFour = several 2 1 four absent
 abbrev pub narrowFour : List ℕ
 narrowFour = several 2 3 four (lot (9 ∷ []) (3 ∷ 4 ∷ []))
 
+-- The membership of `giveX`, with its marker, in a wide message.
+abbrev pub giveWideX : List ℕ
+giveWideX = several addsX 2 absent (record { keys = 1 ∷ []; ids = 10 ∷ []; mask = 3 })
+
 -- The P record of a key and an id in which R counts n; and the block with such records and room for n more.
 abbrev pub reader : ℕ → ℕ → ℕ → Row
 reader x y n = record { key = x; id = y; counts = 0 ∷ n ∷ zeros (letterCount - 2) }
@@ -344,13 +348,15 @@ wides =
     -- "the first of 6, 7 or 8 met in pair order", "by key then id": the second pair, 7 with 4, is refused with 7; by id then key it would be
     -- 9 with 3, and 8.
     ∷ Case.refused (readers (reader 7 3 1 ∷ reader 7 4 65535 ∷ reader 9 4 1 ∷ []) 0) (wide giveFour) 7
-    -- The first pair is taken away with its record, then the second has nothing to take: both are as they were.
+    -- The first pair is taken away with its record, then the second has nothing to take: the first is back as it was.
     ∷ Case.refused (readers (reader 7 3 1 ∷ reader 9 3 1 ∷ reader 9 4 1 ∷ []) 0) (wide withdrawFour) 6
     -- All four are taken away, then the first of the new half is added, and the second finds no room.
     ∷ Case.refused (readers (reader 7 3 2 ∷ reader 7 4 1 ∷ reader 9 3 2 ∷ reader 9 4 2 ∷ []) 0)
     (wide (several 2 3 four (lot (8 ∷ []) (3 ∷ 4 ∷ [])))) 8
     -- One pair says what a plain message says.
     ∷ Case.accepted nothing (wide (several 2 2 absent (lot (9 ∷ []) (1 ∷ [])))) (reads 1)
+    -- M-107: "Wide messages and appointments carry markers".
+    ∷ Case.accepted nothing (wide giveWideX) (member 1 1 0)
     -- "a present half's list that is empty, too long or not strictly rising": no key, nine ids, the same id twice, ids that fall.
     ∷ Case.malformed nothing (wide (several 2 2 absent (lot [] (3 ∷ []))))
     ∷ Case.malformed nothing (wide (several 2 2 absent (lot (7 ∷ []) (1 ∷ 2 ∷ 3 ∷ 4 ∷ 5 ∷ 6 ∷ 7 ∷ 8 ∷ 9 ∷ []))))
@@ -359,12 +365,11 @@ wides =
     -- "An absent half has lengths and mask zero."
     ∷ Case.malformed nothing (wide (several 2 2 four four))
     ∷ Case.malformed nothing (wide (several 2 2 (record { keys = []; ids = []; mask = 2 }) four))
-    -- "a wrong header or length": a byte more; and an offset of 0 for a list of the absent half, which would begin at 16.
+    -- "a wrong header or length": the 12 bytes of a plain message; a byte more; and an offset of 0 for a list of the absent half, which would begin at 16.
+    ∷ Case.malformed nothing (wide give)
     ∷ Case.malformed nothing (wide (giveFour ++ (0 ∷ [])))
     ∷ Case.malformed nothing
-    (wide (2 ∷ 2 ∷ 0 ∷ 0 ∷ 1 ∷ 1 ∷ 0 ∷ 2 ∷ (twos (0 ∷ 16 ∷ 16 ∷ 18 ∷ []) ++ twos (7 ∷ 3 ∷ []))))
-    -- M-107: "Wide messages and appointments carry markers".
-    ∷ Case.accepted nothing (wide (several addsX 2 absent (record { keys = 1 ∷ []; ids = 10 ∷ []; mask = 3 }))) (member 1 1 0) ∷ []
+    (wide (2 ∷ 2 ∷ 0 ∷ 0 ∷ 1 ∷ 1 ∷ 0 ∷ 2 ∷ (twos (0 ∷ 16 ∷ 16 ∷ 18 ∷ []) ++ twos (7 ∷ 3 ∷ [])))) ∷ []
 
 -- All of them, in 01's order, with what M-100, M-101, M-102, M-107 and M-109 add.
 abbrev pub cases : List Case

@@ -133,11 +133,13 @@ pub data IgnoresMarkers (p : Program) : Type 0 where
   short : ((b b′ : List ℕ) → SameLetters b b′ → (u o request : ℕ) → p .may b u o request .1 ≡ p .may b′ u o request .1)
       → IgnoresMarkers p
 
--- M-107: "Markers are taken and added with the letters": one whose messages leave the count of every marker as it was.
-abbrev pub KeepsMarkers : Program → Type 0
-KeepsMarkers p =
-    (b : List ℕ) (m : Sent) (x y k : ℕ) → markerX ≤ k → k < letterCount
-    → count (p .sends b m .1) Membership x y k ≡ count b Membership x y k
+-- M-107: "Markers are taken and added with the letters": one whose messages, plain or wide, leave the count of every marker as it was.
+abbrev pub SameMarkers : List ℕ → List ℕ → Type 0
+SameMarkers b b′ = (x y k : ℕ) → markerX ≤ k → k < letterCount → count b′ Membership x y k ≡ count b Membership x y k
+
+pub data KeepsMarkers (p : Program) : Type 0 where
+  messages : ((b m : List ℕ) → SameMarkers b (p .sends b (plain m) .1)) → KeepsMarkers p
+  wides : ((b m : List ℕ) → SameMarkers b (p .sends b (wide m) .1)) → KeepsMarkers p
 
 -- M-100: "a wide statement counts once in each of its pairs": one that counts it once for all of them, so that a block without records has
 -- one at most after a wide message.
@@ -151,9 +153,11 @@ pub record LeavesHalfDone (p : Program) : Type 0 where
   pub refused : 0 < p .sends block message .0
   pub changed : p .sends block message .1 ≡ block → ⊥
 
--- "one that works at the first message and then only says accepted": a block with a record in it is past its first message.
-abbrev pub OnlyTheFirst : Program → Type 0
-OnlyTheFirst p = (b : List ℕ) (m : Sent) → 0 < records b → p .sends b m ≡ (0, b)
+-- "one that works at the first message and then only says accepted", in plain messages or in wide ones: a block with a record in it is past
+-- its first message.
+pub data OnlyTheFirst (p : Program) : Type 0 where
+  messages : ((b m : List ℕ) → 0 < records b → p .sends b (plain m) ≡ (0, b)) → OnlyTheFirst p
+  wides : ((b m : List ℕ) → 0 < records b → p .sends b (wide m) ≡ (0, b)) → OnlyTheFirst p
 
 -- What the program does with a history. It is handed messages one after the other, each of which "quotes as its previous state
 -- just what the last accepted message of the same statement left".

@@ -210,7 +210,7 @@ impl WideMessage {
     /// Where the header has the lengths of the lists, the masks of the halves, and where each list begins.
     const LENGTHS: usize = 2;
     const MASKS: usize = 6;
-    const STARTS: usize = 8;
+    const OFFSETS: usize = 8;
 
     /// What the statement said before, and what it says now.
     pub fn new(kind: Kind, previous: Option<WideHalf>, new: Option<WideHalf>) -> WideMessage {
@@ -222,7 +222,7 @@ impl WideMessage {
         let lists = halves.into_iter().flat_map(|half| [half.map(|half| half.keys), half.map(|half| half.ids)]);
         for (number, list) in lists.enumerate() {
             bytes[Self::LENGTHS + number] = list.map_or(0, |list| list.how_many);
-            bytes[Self::STARTS + 2 * number..][..2].copy_from_slice(&(end as u16).to_le_bytes());
+            bytes[Self::OFFSETS + 2 * number..][..2].copy_from_slice(&(end as u16).to_le_bytes());
             for name in list.iter().flat_map(Names::iter) {
                 bytes[end..][..2].copy_from_slice(&name.to_le_bytes());
                 end += 2;
@@ -244,7 +244,7 @@ impl WideMessage {
 
 /// The names of a list by its number, as the bytes have them.
 fn list_in(bytes: &[u8], number: usize) -> Option<Names> {
-    let start = bytes.get(WideMessage::STARTS + 2 * number..)?.first_chunk()?;
+    let start = bytes.get(WideMessage::OFFSETS + 2 * number..)?.first_chunk()?;
     let how_many = usize::from(*bytes.get(WideMessage::LENGTHS + number)?);
     let list = bytes.get(u16::from_le_bytes(*start).into()..)?.get(..2 * how_many)?;
     Names::new(list.chunks_exact(2).map(|name| Name::from(name[0]) | Name::from(name[1]) << 8)).ok()

@@ -23,7 +23,7 @@ ghost use Rattle.index.specs.Wide.Sent.{wide};
 ghost use Rattle.index.specs.work.Edits.{half, Tested};
 ghost use Rattle.index.specs.work.Pairing.{mostPairs, Listing};
 
-// How many changes a message may have at most: every pair of two lists, taken away, and every pair of two more, added.
+// How many changes a wide message may have at most: every pair of two lists, taken away, and every pair of two more, added.
 const MOST: usize = 2 * LONGEST * LONGEST;
 
 // The pair of half h with this key and this id.
@@ -84,7 +84,7 @@ pub(crate) fn carry_pairs(b: &mut [u8], m: &[u8]) -> u8
     ensures { λ r. ⌜ Carried (now (b .entry)) (changes (previousOf (wide (now (m .entry)))) (newOf (wide (now (m .entry))))) (now (b .entry)) (r, now (b .exit)) ⌝ }
 {
     let mut list = [0u64; MOST];
-    let half = put_half(&mut list, 0, m, PREVIOUS);
-    let end = put_half(&mut list, half, m, NEW);
+    let middle = put_half(&mut list, 0, m, PREVIOUS);
+    let end = put_half(&mut list, middle, m, NEW);
     run(b, &list[..end])
 }

@@ -88,7 +88,7 @@ pub(crate) fn run(b: &mut [u8], changes: &[u64]) -> u8
     0
 }
 
-// The run of two changes, written out: a message has no need of a list in memory.
+// The run of two changes, written out: a plain message has no need of a list in memory.
 pub(crate) fn run_both(b: &mut [u8], first: u64, second: u64) -> u8
     requires { ⌜ Prepared (first ∷ second ∷ []) (now b) ⌝ }
     ensures { λ r. ⌜ Carried (now (b .entry)) (packedChanges (first ∷ second ∷ [])) (now (b .entry)) (r, now (b .exit)) ⌝ }

@@ -24,7 +24,7 @@ loop-holds : tie.Need-loop-holds Inv-loop μ-loop
 loop-holds c = (omega arith, refl, c .before .before .pre, nothing)
 
 change-requires : tie.Need-change-requires Inv-loop μ-loop
-change-requires c κs = c .before .before .before .loop .inv .2 (c .before .before .before .loop .i) (c .before .before .loop-test .taken)
+change-requires c κs = c .before .before .before .loop .inv .2 (c .before .before .before .loop .i) (omega (arith, c .before .before .loop-test .taken))
 
 undo-requires : tie.Need-undo-requires Inv-loop μ-loop
 undo-requires c κs =
@@ -36,14 +36,14 @@ same-length c = c .before .before .undo .kept .0 ∙ c .before .before .before .
 returns : tie.Need-returns Inv-loop μ-loop
 returns c =
     rw (c .before .before .undo .ensures _ (went-same (c .before .before .before .before .before .before .before .before .before .before .before .loop .inv .3) (c .before .before .before .before .before .before .before .change .ensures) (c .before .before .before .before .if1 .taken)))
-    (went-refused (c .before .before .before .before .before .before .before .before .before .before .before .loop .inv .3) (c .before .before .before .before .before .before .before .before .before .before .loop-test .taken) (c .before .before .before .before .before .before .before .change .ensures) (c .before .before .before .before .if1 .taken))
+    (went-refused (c .before .before .before .before .before .before .before .before .before .before .before .loop .inv .3) (omega (arith, c .before .before .before .before .before .before .before .before .before .before .loop-test .taken)) (c .before .before .before .before .before .before .before .change .ensures) (c .before .before .before .before .if1 .taken))
 
 loop-again : tie.Need-loop-again Inv-loop μ-loop
 loop-again c = (
   omega (arith, c .before .before .before .before .before .before .loop-test .taken),
   c .before .before .before .change .kept .0 ∙ c .before .before .before .before .before .before .before .loop .inv .1,
   still-prepared (c .before .before .before .change .ensures) (c .before .before .before .before .before .before .before .before .before .before .args .changes .now) (c .before .before .before .before .before .before .before .loop .inv .2),
-  went-more (c .before .before .before .before .before .before .before .loop .inv .3) (c .before .before .before .before .before .before .before .loop .inv .2 (c .before .before .before .before .before .before .before .loop .i) (c .before .before .before .before .before .before .loop-test .taken)) (c .before .before .before .change .ensures) (c .if1 .left),
+  went-more (c .before .before .before .before .before .before .before .loop .inv .3) (c .before .before .before .before .before .before .before .loop .inv .2 (c .before .before .before .before .before .before .before .loop .i) (omega (arith, c .before .before .before .before .before .before .loop-test .taken))) (c .before .before .before .change .ensures) (c .if1 .left),
 )
 
 returns-2 : tie.Need-returns-2 Inv-loop μ-loop
