@@ -5,6 +5,7 @@ pub mod Tests
 pub mod Answer
 pub mod Firsts
 pub mod OneFirst
+pub mod Deciding
 -- Then by 01's headings, and what was promised to the customer.
 pub mod block
 pub mod message

@@ -76,6 +76,23 @@ module _ {O : Type 0} (refused : ℕ → O) (ts us : List (ℕ × Type 0)) (acce
       go [] h = f
       go (t ∷ ts) h = inr (h .0, go ts (h .1))
 
+  -- Where those that follow all hold, they may be left out, or put in.
+  pub without-last : (o : O) → All us → First refused (ts ++ us) accepted o → First refused ts accepted o
+  without-last o h f = go ts f
+    where
+      go : (ts : List (ℕ × Type 0)) → First refused (ts ++ us) accepted o → First refused ts accepted o
+      go [] f = first-sure refused accepted o us h f
+      go (t ∷ ts) (inl p) = inl p
+      go (t ∷ ts) (inr p) = inr (p .0, go ts (p .1))
+
+  pub with-last : (o : O) → All us → First refused ts accepted o → First refused (ts ++ us) accepted o
+  with-last o h f = go ts f
+    where
+      go : (ts : List (ℕ × Type 0)) → First refused ts accepted o → First refused (ts ++ us) accepted o
+      go [] f = first-all refused accepted o us h f
+      go (t ∷ ts) (inl p) = inl p
+      go (t ∷ ts) (inr p) = inr (p .0, go ts (p .1))
+
 -- ---- the number by itself
 
 pub passed : (ts : List (ℕ × Type 0)) {r : ℕ} → Positive ts → r ≡ 0 → Answers ts r → All ts

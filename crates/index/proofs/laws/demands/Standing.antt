@@ -87,17 +87,17 @@ module _ (kind : Kind) (x y k : ℕ) where
   up-adds [] = refl
   up-adds (h ∷ hs) = omega (arith, up-adds hs)
 
-  downs : (hs gs : List Half) → sum (down kind x y k) (changes hs gs) ≡ movesOf hs kind x y k
+  pub downs : (hs gs : List Half) → sum (down kind x y k) (changes hs gs) ≡ movesOf hs kind x y k
   unfolding changes taken movesOf
   downs [] gs = down-adds gs
   downs (h ∷ hs) gs = omega (arith, downs hs gs)
 
-  ups : (hs gs : List Half) → sum (up kind x y k) (changes hs gs) ≡ movesOf gs kind x y k
+  pub ups : (hs gs : List Half) → sum (up kind x y k) (changes hs gs) ≡ movesOf gs kind x y k
   unfolding changes added
   ups [] gs = up-adds gs
   ups (h ∷ hs) gs = omega (arith, ups hs gs)
 
-  apart : (z : ℕ) (s : List Statement) → Once s → tally (others z s) kind x y k + movesOf (left z s) kind x y k ≡ tally s kind x y k
+  pub apart : (z : ℕ) (s : List Statement) → Once s → tally (others z s) kind x y k + movesOf (left z s) kind x y k ≡ tally s kind x y k
   unfolding tally others left movesOf
   apart z [] o = refl
   apart z (e ∷ s) o = go (ℕ-discrete (e .label) z) (apart z s (o .1))
@@ -124,13 +124,14 @@ single-others z (e ∷ s) o = go (eqb (e .label) z) (single-others z s (o .1))
 
 -- What demand 3 says of a block and the statements at one moment: each statement stands in the list once, and counts at most
 -- once in a letter of a record, and "each count, 0 for a missing record, equals the number of statements standing at that moment with that record
--- and that letter".
-pub record Counts (b : List ℕ) (s : List Statement) : Type 0 where
+-- and that letter", and so many more, which no message touches.
+pub record CountsWith (more : Kind → ℕ → ℕ → ℕ → ℕ) (b : List ℕ) (s : List Statement) : Type 0 where
   pub once : Once s
   pub single : Single s
-  pub counts : (kind : Kind) (x y k : ℕ) → k < letterCount → count b kind x y k ≡ tally s kind x y k
+  pub counts : (kind : Kind) (x y k : ℕ) → k < letterCount → count b kind x y k ≡ tally s kind x y k + more kind x y k
 
-holds : {b b′ : List ℕ} {s s′ : List Statement} {ms : List Labelled} → History b s ms b′ s′ → Counts b s → Counts b′ s′
+pub holds : {more : Kind → ℕ → ℕ → ℕ → ℕ} {b b′ : List ℕ} {s s′ : List Statement} {ms : List Labelled} → History b s ms b′ s′
+    → CountsWith more b s → CountsWith more b′ s′
 unfolding after tally
 holds nothing e = e
 holds (accepted {b} {b₁} {s = s} {m = m} h q p) e =
@@ -164,14 +165,16 @@ unfolding Makes makeNeeds
 made-empty b₀ b (inl r) = let z : _≡_ {A = ℕ} 0 1 = ap (λ (o : ℕ × List ℕ). o .0) (r .1) in absurd (omega arith)
 made-empty b₀ b (inr r) = r .1 .3
 
+-- No statement stands in it, and no count is above 0.
+abbrev pub none : Kind → ℕ → ℕ → ℕ → ℕ
+none kind x y k = 0
+
+pub made-counts : (b₀ b : List ℕ) → Makes b₀ (0, b) → CountsWith none b []
+unfolding tally
+made-counts b₀ b e =
+    record { once = tt; single = tt; counts = λ kind x y k l. no-count kind x y k b (made-empty b₀ b e) }
+
 -- Demand 3, second half: from the block that make leaves, at every moment of a history.
 pub standing : (b₀ b : List ℕ) {b′ : List ℕ} {s′ : List Statement} (ms more : List Labelled) → Makes b₀ (0, b)
-    → History b [] (ms ++ more) b′ s′ → (b₁ : List ℕ) × (s₁ : List Statement) × History b [] ms b₁ s₁ × Counts b₁ s₁
-unfolding tally
-standing b₀ b ms more e h =
-    let p = moment ms more h in (
-      p .0,
-      p .1,
-      p .2,
-      holds (p .2) (record { once = tt; single = tt; counts = λ kind x y k l. no-count kind x y k b (made-empty b₀ b e) }),
-    )
+    → History b [] (ms ++ more) b′ s′ → (b₁ : List ℕ) × (s₁ : List Statement) × History b [] ms b₁ s₁ × CountsWith none b₁ s₁
+standing b₀ b ms more e h = let p = moment ms more h in (p .0, p .1, p .2, holds (p .2) (made-counts b₀ b e))

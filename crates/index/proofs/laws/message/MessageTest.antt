@@ -78,11 +78,11 @@ module _ (end : List Change → List ℕ → Bool) (b₀ : List ℕ) (o : List �
       step-test b₀ b d c (o (lastOf d ds)) cs (p .0) (change-test c b d (q .0)) (through-test cs d ds (q .1))
 
 -- No change is left.
-abbrev noneLeft : List Change → List ℕ → Bool
+abbrev pub noneLeft : List Change → List ℕ → Bool
 noneLeft [] b = true
 noneLeft (c ∷ cs) b = false
 
-none-left : (b₀ : List ℕ) (cs : List Change) (b : List ℕ) → noneLeft cs b ≡ true → Carried b₀ cs b (0, b)
+pub none-left : (b₀ : List ℕ) (cs : List Change) (b : List ℕ) → noneLeft cs b ≡ true → Carried b₀ cs b (0, b)
 unfolding Carried
 none-left b₀ [] b e = refl
 none-left b₀ (c ∷ cs) b e = let z : _≡_ {A = ℕ} 0 1 = cc in absurd (omega arith)

@@ -24,7 +24,7 @@ use Rattle.index.proofs.laws.message.NameLists.{nameAt}
 pub listing-none : (adds : Bool) (i : ℕ) (cs : List ℕ) → Listing adds i i [] cs cs
 listing-none adds i cs = record { same-length = refl; changes = sym (append-nil _) }
 
-listing-more : {adds : Bool} {i j : ℕ} {hs : List Half} {cs cs′ : List ℕ} (v : ℕ) (h : Half) → Listing adds i j hs cs cs′ → j < length cs′
+pub listing-more : {adds : Bool} {i j : ℕ} {hs : List Half} {cs cs′ : List ℕ} (v : ℕ) (h : Half) → Listing adds i j hs cs cs′ → j < length cs′
     → packedChange v ≡ changeOf adds h → Listing adds i (j + 1) (hs ++ (h ∷ [])) cs (set cs′ j v)
 listing-more {adds} {i} {j} {hs} {cs} {cs′} v h l below e =
     let s : length (set cs′ j v) ≡ length cs′ = simp length-set in
@@ -76,26 +76,30 @@ pub both-listed : (hs gs : List Half) {j k : ℕ} {cs cs₁ cs₂ : List ℕ} �
 unfolding changes
 both-listed hs gs l p = rw (p .changes, l .changes)
 
--- The list is prepared where each half of the message is ready.
-module _ (b : List ℕ) where
-  prepared-from : (cs : List ℕ) (ds : List Change) → packedChanges cs ≡ ds → Each (λ d. Ready (halfOf d) b) ds
-      → Each (λ n. Ready (packedHalf n) b) cs
-  prepared-from [] ds e r = tt
-  prepared-from (n ∷ cs) [] e r = let z : _≡_ {A = ℕ} 0 1 = cc in absurd (omega arith)
-  prepared-from (n ∷ cs) (d ∷ ds) e r =
+-- ---- what holds of each half holds of each change as a number
+
+module _ (P : Half → Type 0) where
+  packed-from : (cs : List ℕ) (ds : List Change) → packedChanges cs ≡ ds → Each (λ d. P (halfOf d)) ds → Each (λ n. P (packedHalf n)) cs
+  packed-from [] ds e r = tt
+  packed-from (n ∷ cs) [] e r = let z : _≡_ {A = ℕ} 0 1 = cc in absurd (omega arith)
+  packed-from (n ∷ cs) (d ∷ ds) e r =
       let p : packedChange n ≡ d = cc in
       let q : packedChanges cs ≡ ds = cc in
-      (rw (sym (half-change n) ∙ ap halfOf p) (r .0), prepared-from cs ds q (r .1))
+      (rw (sym (half-change n) ∙ ap halfOf p) (r .0), packed-from cs ds q (r .1))
 
-  each-adds : (gs : List Half) → Each (λ h. Ready h b) gs → Each (λ d. Ready (halfOf d) b) (map add gs)
+  each-adds : (gs : List Half) → Each P gs → Each (λ d. P (halfOf d)) (map add gs)
   each-adds [] r = tt
   each-adds (g ∷ gs) r = (r .0, each-adds gs (r .1))
 
-  each-change : (hs gs : List Half) → Each (λ h. Ready h b) (hs ++ gs) → Each (λ d. Ready (halfOf d) b) (changes hs gs)
+  each-change : (hs gs : List Half) → Each P (hs ++ gs) → Each (λ d. P (halfOf d)) (changes hs gs)
   unfolding changes
   each-change [] gs r = each-adds gs r
   each-change (h ∷ hs) gs r = (r .0, each-change hs gs (r .1))
 
-  pub prepared-changes : (cs : List ℕ) (hs gs : List Half) → packedChanges cs ≡ changes hs gs → Each (λ h. Ready h b) (hs ++ gs)
-      → Prepared cs b
-  prepared-changes cs hs gs e r = each-prepared cs (prepared-from cs (changes hs gs) e (each-change hs gs r))
+  pub packed-each : (cs : List ℕ) (hs gs : List Half) → packedChanges cs ≡ changes hs gs → Each P (hs ++ gs) → Each (λ n. P (packedHalf n)) cs
+  packed-each cs hs gs e r = packed-from cs (changes hs gs) e (each-change hs gs r)
+
+-- The list is prepared where each half of the message is ready.
+pub prepared-changes : (b cs : List ℕ) (hs gs : List Half) → packedChanges cs ≡ changes hs gs → Each (λ h. Ready h b) (hs ++ gs)
+    → Prepared cs b
+prepared-changes b cs hs gs e r = each-prepared cs (packed-each (λ h. Ready h b) cs hs gs e r)
