@@ -1,0 +1,2 @@
+-- What the proofs of several functions use, and the laws of appointments.
+pub mod laws
