@@ -17,7 +17,13 @@ use Rattle.directory.proofs.OneBy.{one-made, one-sent-by, one-read-by, one-writ
 use Rattle.rights.specs.Questions.{Full, Short, FullBy, ShortBy}
 use Rattle.rights.proofs.laws.questions.OneAnswer.{one-full, one-short}
 use Rattle.rights.proofs.laws.questions.SameAnswers.{one-full-by, one-short-by}
-use Rattle.anaqsiro.specs.Returned.{Packed, Returned, Parts, InParts, MakeReturns, SendsReturns, RightsReturns, MayReturns, WriteReturns, ReadReturns, DirectoryReturns, SendsByReturns, RightsByReturns, MayByReturns, WriteByReturns, ReadByReturns, TestedReturns, SizeReturns, RecordReturns, CountReturns}
+use Rattle.calendar.specs.declared.Date.{Date}
+use Rattle.calendar.specs.Calls.{DayOf, DateOf}
+use Rattle.calendar.proofs.laws.OneAnswer.{one-day-of, one-date-of}
+use Rattle.appointments.specs.Moves.{Moved}
+use Rattle.appointments.specs.Asking.{Stands, NextChange}
+use Rattle.appointments.proofs.laws.OneAnswer.{one-moved, one-stands, one-next-change}
+use Rattle.anaqsiro.specs.Returned.{Packed, Returned, Parts, InParts, MakeReturns, SendsReturns, RightsReturns, MayReturns, WriteReturns, ReadReturns, DirectoryReturns, SendsByReturns, RightsByReturns, MayByReturns, WriteByReturns, ReadByReturns, TestedReturns, SizeReturns, RecordReturns, CountReturns, DayReturns, DateParts, DateReturns, MoveReturns, NextReturns, StandsReturns}
 
 -- The number is the upper half of what is returned, and the value the lower.
 pub halves : {n v r : ℕ} → Packed n v r → (n ≡ r / 4294967296) × (v ≡ r % 4294967296)
@@ -146,6 +152,47 @@ module _ (b d : List ℕ) where
         → (r ≡ r₂) × (b₁ ≡ b₂) × (d₁ ≡ d₂)
     unfolding ReadByReturns
     one-read-by-return = one-both (ReadBy b d kind x s) (one-read-by b d kind x s) r r₂
+
+-- ---- M-105: appointments
+
+pub one-day-return : (year month day r r₂ : ℕ) → DayReturns year month day r → DayReturns year month day r₂ → r ≡ r₂
+unfolding DayReturns
+one-day-return year month day = one-answer (DayOf year month day) (one-day-of year month day)
+
+-- The three parts of a date's value.
+pub date-apart : {d : Date} {v : ℕ} → DateParts d v → (d .day ≡ v % 32) × (d .month ≡ v / 32 % 16) × (d .year ≡ v / 512)
+date-apart p = (omega arith, omega arith, omega arith)
+
+pub one-date-return : (day r r₂ : ℕ) → DateReturns day r → DateReturns day r₂ → r ≡ r₂
+unfolding DateReturns
+one-date-return day =
+    one-answer (λ a. (d : Date) × DateParts d (a .1) × DateOf day (a .0, d))
+    (λ a c p q.
+    let e = one-date-of day (a .0, p .0) (c .0, q .0) (p .2) (q .2) in
+    let n : a .0 ≡ c .0 = ap (λ (o : ℕ × Date). o .0) e in
+    let v : a .1 ≡ c .1 =
+    omega (
+      arith,
+      p .1 .is,
+      q .1 .is,
+      ap (λ (o : ℕ × Date). o .1 .day) e,
+      ap (λ (o : ℕ × Date). o .1 .month) e,
+      ap (λ (o : ℕ × Date). o .1 .year) e,
+    ) in
+    λ i. (n i, v i))
+
+pub one-move-return : (b l : List ℕ) (old new r r₂ : ℕ) (b′ b₂′ : List ℕ) → MoveReturns b l old new r b′ → MoveReturns b l old new r₂ b₂′
+    → (r ≡ r₂) × (b′ ≡ b₂′)
+unfolding MoveReturns
+one-move-return b l old new = one-return _ (one-number (Moved b l old new) (one-moved b l old new))
+
+pub one-next-return : (l : List ℕ) (day r r₂ : ℕ) → NextReturns l day r → NextReturns l day r₂ → r ≡ r₂
+unfolding NextReturns
+one-next-return l day = one-answer (NextChange l day) (one-next-change l day)
+
+pub one-stands-return : (l : List ℕ) (day r r₂ : ℕ) → StandsReturns l day r → StandsReturns l day r₂ → r ≡ r₂
+unfolding StandsReturns
+one-stands-return l day = one-answer (Stands l day) (one-stands l day)
 
 -- ---- the block as it stands
 

@@ -13,6 +13,10 @@ use Rattle.index.specs.Wide.Sent.{plain, wide}
 use Rattle.index.specs.Calls.{blockNeeds, Makes, Sends, WritesSet, ReadsSet}
 use Rattle.directory.specs.By.{MakesDirectory, SendsBy, ReadBy, WriteBy}
 use Rattle.rights.specs.Questions.{Full, Short, FullBy, ShortBy}
+use Rattle.calendar.specs.declared.Date.{Date}
+use Rattle.calendar.specs.Calls.{DayOf, DateOf}
+use Rattle.appointments.specs.Moves.{Moved}
+use Rattle.appointments.specs.Asking.{Stands, NextChange}
 
 -- The number n and the value v, which fits 32 bits, as one number r of 64 bits.
 pub record Packed (n v r : ℕ) : Type 0 where
@@ -86,6 +90,32 @@ WriteByReturns b d kind x out r out′ = Returned (λ n v. WriteBy b d kind x ou
 
 unfoldable pub ReadByReturns : List ℕ → List ℕ → ℕ → ℕ → List ℕ → ℕ → List ℕ → List ℕ → Type 0
 ReadByReturns b d kind x text r b′ d′ = Returned (λ n v. ReadBy b d kind x text (n, v, b′, d′)) r
+
+-- ---- M-105: appointments
+
+-- The day's number.
+unfoldable pub DayReturns : ℕ → ℕ → ℕ → ℕ → Type 0
+DayReturns year month day r = Returned (λ n v. DayOf year month day (n, v)) r
+
+-- The date d as one value v: the day of the month, plus 2^5 times the month, plus 2^9 times the year. None of the three runs into the next.
+pub record DateParts (d : Date) (v : ℕ) : Type 0 where
+  pub is : v ≡ d .day + 32 * d .month + 512 * d .year
+  pub day-fits : d .day < 32
+  pub month-fits : d .month < 16
+
+unfoldable pub DateReturns : ℕ → ℕ → Type 0
+DateReturns day r = Returned (λ n v. (d : Date) × DateParts d v × DateOf day (n, d)) r
+
+unfoldable pub MoveReturns : List ℕ → List ℕ → ℕ → ℕ → ℕ → List ℕ → Type 0
+MoveReturns b l old new r b′ = Returned (λ n v. (v ≡ 0) × Moved b l old new (n, b′)) r
+
+-- The day of the next change, or 0.
+unfoldable pub NextReturns : List ℕ → ℕ → ℕ → Type 0
+NextReturns l day r = Returned (λ n v. NextChange l day (n, v)) r
+
+-- 1 for yes, 0 for no.
+unfoldable pub StandsReturns : List ℕ → ℕ → ℕ → Type 0
+StandsReturns l day r = Returned (λ n v. Stands l day (n, v)) r
 
 -- ---- a block as it stands, record by record: only the first of these four calls tests it
 

@@ -1,5 +1,9 @@
 // The C interface: each call returns the refusal's number times 2^32, plus a value. On refusal the value is 0, but for 9,
 // which comes with the place of the text. A call whose name ends in `_by` is the call of that name, by a directory.
+use appointments::Next;
+use appointments::Stood;
+use calendar::Dated;
+use calendar::DayNumber;
 use index::LETTER_COUNT;
 use index::Took;
 use index::Wrote;
@@ -7,8 +11,8 @@ use rights::Answer;
 use rights::Rights;
 ghost use mathlib.Core.Path.{_≡_};
 ghost use Prim.Native.Nat.{_<_};
-ghost use Rattle.anaqsiro.specs.Returned.{Packed, Parts, MakeReturns, MessageReturns, WideReturns, RightsReturns, MayReturns, WriteReturns, ReadReturns, DirectoryReturns, MessageByReturns, WideByReturns, RightsByReturns, MayByReturns, WriteByReturns, ReadByReturns, TestedReturns, SizeReturns, RecordReturns, CountReturns};
-ghost use Rattle.anaqsiro.specs.work.Answered.{RightsFit, RightsAs, AnswerAs, WroteFits, WroteAs, TookFits, TookAs};
+ghost use Rattle.anaqsiro.specs.Returned.{Packed, Parts, MakeReturns, MessageReturns, WideReturns, RightsReturns, MayReturns, WriteReturns, ReadReturns, DirectoryReturns, MessageByReturns, WideByReturns, RightsByReturns, MayByReturns, WriteByReturns, ReadByReturns, TestedReturns, SizeReturns, RecordReturns, CountReturns, DayReturns, DateReturns, MoveReturns, NextReturns, StandsReturns};
+ghost use Rattle.anaqsiro.specs.work.Answered.{RightsFit, RightsAs, AnswerAs, WroteFits, WroteAs, TookFits, TookAs, DayFits, DayAs, DateFits, DateAs, NextFits, NextAs, StoodAs};
 
 // The number and the value as one number.
 fn packed(number: u8, value: u64) -> u64
@@ -71,6 +75,51 @@ fn of_took(took: Took) -> u64
         Took::Set(records) => packed(0, records as u64),
         Took::Wrong(place) => packed(9, place as u64),
         Took::Refused(number) => packed(number, 0),
+    }
+}
+
+// The number of a day.
+fn of_day(answer: DayNumber) -> u64
+    requires { ⌜ DayFits answer ⌝ }
+    ensures { λ r. ⌜ DayAs answer r ⌝ }
+{
+    match answer {
+        DayNumber::Day(day) => packed(0, day),
+        DayNumber::Refused(number) => packed(number, 0),
+    }
+}
+
+// A date: the value is the day of the month, plus 2^5 times the month, plus 2^9 times the year.
+fn of_date(answer: Dated) -> u64
+    requires { ⌜ DateFits answer ⌝ }
+    ensures { λ r. ⌜ DateAs answer r ⌝ }
+{
+    match answer {
+        Dated::On(date) => packed(0, date.day + 32 * date.month + 512 * date.year),
+        Dated::Refused(number) => packed(number, 0),
+    }
+}
+
+// The day of the next change: the value is 0 where there is none.
+fn of_next(answer: Next) -> u64
+    requires { ⌜ NextFits answer ⌝ }
+    ensures { λ r. ⌜ NextAs answer r ⌝ }
+{
+    match answer {
+        Next::On(day) => packed(0, day),
+        Next::Never => packed(0, 0),
+        Next::Refused(number) => packed(number, 0),
+    }
+}
+
+// Whether an appointment stands: the value is 1 for yes and 0 for no.
+fn of_stood(answer: Stood) -> u64
+    ensures { λ r. ⌜ StoodAs answer r ⌝ }
+{
+    match answer {
+        Stood::Yes => packed(0, 1),
+        Stood::No => packed(0, 0),
+        Stood::Refused(number) => packed(number, 0),
     }
 }
 
@@ -210,6 +259,48 @@ pub extern "C" fn anaqsiro_read_by(
     ensures { λ r. ⌜ ReadByReturns (now (block .entry)) (now (directory .entry)) kind key (now (text .entry)) r (now (block .exit)) (now (directory .exit)) ⌝ }
 {
     of_took(directory::read_by(block, directory, kind, key, text))
+}
+
+// ---- appointments
+
+// The number of a date's day.
+#[no_mangle]
+pub extern "C" fn anaqsiro_day(year: u64, month: u64, day: u64) -> u64
+    ensures { λ r. ⌜ DayReturns year month day r ⌝ }
+{
+    of_day(calendar::day_of(year, month, day))
+}
+
+// The date of a day.
+#[no_mangle]
+pub extern "C" fn anaqsiro_date(day: u64) -> u64
+    ensures { λ r. ⌜ DateReturns day r ⌝ }
+{
+    of_date(calendar::date_of(day))
+}
+
+// From one day to another.
+#[no_mangle]
+pub extern "C" fn anaqsiro_move(block: &mut [u8], list: &[u8], old: u64, new: u64) -> u64
+    ensures { λ r. ⌜ MoveReturns (now (block .entry)) (now (list .entry)) old new r (now (block .exit)) ⌝ }
+{
+    packed(appointments::moved(block, list, old, new), 0)
+}
+
+// The next day on which another set of a list stands.
+#[no_mangle]
+pub extern "C" fn anaqsiro_next_change(list: &[u8], day: u64) -> u64
+    ensures { λ r. ⌜ NextReturns (now (list .entry)) day r ⌝ }
+{
+    of_next(appointments::next_change(list, day))
+}
+
+// Whether an appointment stands on a day.
+#[no_mangle]
+pub extern "C" fn anaqsiro_stands(appointment: &[u8], day: u64) -> u64
+    ensures { λ r. ⌜ StandsReturns (now (appointment .entry)) day r ⌝ }
+{
+    of_stood(appointments::stands(appointment, day))
 }
 
 // ---- a block as it stands, record by record: only the first call tests it

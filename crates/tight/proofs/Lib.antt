@@ -7,6 +7,10 @@ pub mod Mixed
 pub mod Starred
 pub mod NotVacuous
 pub mod FourTimes
+pub mod Appointed
+pub mod FiveEmptyDays
+pub mod MillDays
+pub mod NotVacuousDays
 -- What they rest on: one outcome for each promise, and the tests that compute.
 pub mod Programs
 pub mod ByDirectory
@@ -15,3 +19,4 @@ pub mod RightsTest
 pub mod TextTest
 pub mod RefusedTest
 pub mod CaseTest
+pub mod MoveTest

@@ -1,10 +1,14 @@
--- 01, "Numbers a caller can get", M-100 and M-106: which calls give which numbers. A call gives a number when it does so for some input.
+-- 01, "Numbers a caller can get", M-100, M-105 and M-106: which calls give which numbers. A call gives a number when it does so for some input.
 use Prim.Native.Nat.{ℕ}
 use mathlib.Core.List.{List, [], _∷_}
 use Rattle.index.specs.Wide.{Sent}
 use Rattle.index.specs.Calls.{Makes, Sends, CarriesOut, WritesSet, ReadsSet}
 use Rattle.directory.specs.By.{MakesDirectory, SendsBy, ReadBy, WriteBy}
 use Rattle.rights.specs.Questions.{Full, Short, FullBy, ShortBy}
+use Rattle.calendar.specs.declared.Date.{Date}
+use Rattle.calendar.specs.Calls.{DayOf, DateOf, AnniversaryOf, SpanOf}
+use Rattle.appointments.specs.Moves.{Moved}
+use Rattle.appointments.specs.Asking.{Stands, NextChange}
 
 abbrev pub MakeGives : ℕ → Type 0
 MakeGives n = (b : List ℕ) × (b′ : List ℕ) × Makes b (n, b′)
@@ -54,6 +58,25 @@ QuestionsByGive n =
     (b : List ℕ) × (d : List ℕ) × (u : ℕ) × (o : ℕ) × (request : ℕ) × (values : ℕ × ℕ × ℕ) × (answer : ℕ)
     × FullBy b d u o request (n, values .0, values .1, values .2) × ShortBy b d u o request (n, answer)
 
+-- ---- M-105: days, dates, terms and appointments
+
+abbrev pub DayGives : ℕ → Type 0
+DayGives n = (y : ℕ) × (m : ℕ) × (d : ℕ) × (v : ℕ) × DayOf y m d (n, v)
+
+abbrev pub DateGives : ℕ → Type 0
+DateGives n = (day : ℕ) × (d : Date) × DateOf day (n, d)
+
+-- An anniversary, and the days of the same term.
+abbrev pub TermGives : ℕ → Type 0
+TermGives n = (first : Date) × (term : ℕ) × (d : Date) × (s : ℕ × ℕ) × AnniversaryOf first term (n, d) × SpanOf first term (n, s)
+
+abbrev pub MoveGives : ℕ → Type 0
+MoveGives n = (b : List ℕ) × (l : List ℕ) × (old : ℕ) × (new : ℕ) × (b′ : List ℕ) × Moved b l old new (n, b′)
+
+-- What a host asks besides, of one appointment.
+abbrev pub AskedGive : ℕ → Type 0
+AskedGive n = (l : List ℕ) × (day : ℕ) × (v : ℕ) × (w : ℕ) × Stands l day (n, v) × NextChange l day (n, w)
+
 -- ---- the numbers of each call
 
 -- The column "calls" of 01, read the other way: the numbers of each call.
@@ -80,3 +103,14 @@ directoryNumbers = 0 ∷ 1 ∷ 2 ∷ 13 ∷ []
 -- M-106: the numbers of the call without a directory, and "13".
 abbrev pub byDirectory : List ℕ → List ℕ
 byDirectory numbers = 13 ∷ numbers
+
+-- M-105: "1, 2, 4, 5, then 12", "then the first of 6, 7, 8 met", and 3 for what is no list.
+abbrev pub moveNumbers : List ℕ
+moveNumbers = 0 ∷ 1 ∷ 2 ∷ 3 ∷ 4 ∷ 5 ∷ 12 ∷ 6 ∷ 7 ∷ 8 ∷ []
+
+abbrev pub askedNumbers : List ℕ
+askedNumbers = 0 ∷ 3 ∷ 4 ∷ 5 ∷ 12 ∷ []
+
+-- "12 for" "a date that is none, or a day, date, term or anniversary outside the range".
+abbrev pub dateNumbers : List ℕ
+dateNumbers = 0 ∷ 12 ∷ []

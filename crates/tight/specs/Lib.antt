@@ -1,6 +1,8 @@
 -- What the customer reads.
 pub mod Programs
+pub mod DayPrograms
 pub mod Demand3
 pub mod Blocks
 pub mod Examples
+pub mod Appointed
 pub mod EachNumber

@@ -8,7 +8,15 @@ use Rattle.rights.specs.declared.Rights.{Rights}
 use Rattle.rights.specs.declared.Rights.the-variants as rights
 use Rattle.rights.specs.declared.Answer.{Answer}
 use Rattle.rights.specs.declared.Answer.the-variants as answer
-use Rattle.anaqsiro.specs.Returned.{Packed, Parts}
+use Rattle.calendar.specs.declared.DayNumber.{DayNumber}
+use Rattle.calendar.specs.declared.DayNumber.the-variants as numbered
+use Rattle.calendar.specs.declared.Dated.{Dated}
+use Rattle.calendar.specs.declared.Dated.the-variants as dated
+use Rattle.appointments.specs.declared.Next.{Next}
+use Rattle.appointments.specs.declared.Next.the-variants as next
+use Rattle.appointments.specs.declared.Stood.{Stood}
+use Rattle.appointments.specs.declared.Stood.the-variants as stood
+use Rattle.anaqsiro.specs.Returned.{Packed, Parts, DateParts}
 
 -- ---- the full question
 
@@ -48,3 +56,38 @@ abbrev pub TookAs : Took → ℕ → Type 0
 TookAs (took.Set n) r = Packed 0 n r
 TookAs (took.Wrong place) r = Packed 9 place r
 TookAs (took.Refused n) r = Packed n 0 r
+
+-- ---- days and dates
+
+abbrev pub DayFits : DayNumber → Type 0
+DayFits (numbered.Day n) = n < 4294967296
+DayFits (numbered.Refused n) = Unit {0}
+
+abbrev pub DayAs : DayNumber → ℕ → Type 0
+DayAs (numbered.Day n) r = Packed 0 n r
+DayAs (numbered.Refused n) r = Packed n 0 r
+
+abbrev pub DateFits : Dated → Type 0
+DateFits (dated.On d) = (d .day < 32) × (d .month < 16) × (d .year < 4096)
+DateFits (dated.Refused n) = Unit {0}
+
+abbrev pub DateAs : Dated → ℕ → Type 0
+DateAs (dated.On d) r = (v : ℕ) × DateParts d v × Packed 0 v r
+DateAs (dated.Refused n) r = Packed n 0 r
+
+-- ---- appointments
+
+abbrev pub NextFits : Next → Type 0
+NextFits (next.On n) = n < 4294967296
+NextFits next.Never = Unit {0}
+NextFits (next.Refused n) = Unit {0}
+
+abbrev pub NextAs : Next → ℕ → Type 0
+NextAs (next.On n) r = Packed 0 n r
+NextAs next.Never r = Packed 0 0 r
+NextAs (next.Refused n) r = Packed n 0 r
+
+abbrev pub StoodAs : Stood → ℕ → Type 0
+StoodAs stood.Yes r = Packed 0 1 r
+StoodAs stood.No r = Packed 0 0 r
+StoodAs (stood.Refused n) r = Packed n 0 r
