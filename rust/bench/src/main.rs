@@ -2,8 +2,9 @@
 //! objects of two archives, as `tools/ratios` makes them: the first is then the library, in place of the archive that is linked,
 //! and the second is timed beside it. Their records may have different lengths: each program's blocks are made by its own calls, as
 //! long as its own records want them, and the test of a block is told by the byte too. The calls by a directory have tables of
-//! their own, in which each stands beside the call without it, and so have blocks with markers, for programs that know them, and wide
-//! messages, each beside its pairs as plain messages, for programs that take them.
+//! their own, in which each stands beside the call without it, and so have blocks with markers, for programs that know them, wide
+//! messages, each beside its pairs as plain messages, for programs that take them, and moves of appointments, each beside its changes
+//! as plain messages, for programs that have them.
 //!
 //! Each figure is the median over several rounds of some milliseconds of the processor's time; in a round each program does the
 //! same calls, in turn, on a block that its own calls have made. Buffers are warm: each call works on what the call before left.
@@ -20,6 +21,7 @@ use std::fs;
 use std::hint::black_box;
 use std::ops::Range;
 
+mod appointments;
 mod firms;
 mod wide;
 
@@ -54,20 +56,20 @@ const MILL: Size = Size(1258, 200, 40, 20);
 const FULL: Size = Size(1500, 500, 45, 3);
 
 /// A program that is timed, with its block, the block's directory if the calls go by it, a buffer for texts, and whether it is to
-/// send the pairs of a wide message as plain messages.
+/// send the pairs of a wide message, or the changes of a move, one by one as plain messages.
 struct Runner<'a> {
     library: &'a dyn Library,
     block: Vec<u8>,
     directory: Option<Vec<u16>>,
     out: Vec<u8>,
-    in_pairs: bool,
+    one_by_one: bool,
 }
 
 /// The calls, by the directory if there is one.
 impl<'a> Runner<'a> {
     /// A program whose calls go without a directory.
     fn without(library: &'a dyn Library, block: Vec<u8>) -> Runner<'a> {
-        Runner { library, block, directory: None, out: vec![0; TEXT], in_pairs: false }
+        Runner { library, block, directory: None, out: vec![0; TEXT], one_by_one: false }
     }
 
     /// A program whose calls go by the directory, which it makes.
@@ -293,10 +295,12 @@ fn ratio(rounds: &[Vec<f64>], one: usize, other: usize) -> f64 {
 /// The programs that are timed: the library first, then the plain program, then the archive from before, if there is one.
 struct Programs {
     all: Vec<Box<dyn Library>>,
-    /// How many of them, the first ones, have the calls by a directory, how many know markers, and how many take wide messages.
+    /// How many of them, the first ones, have the calls by a directory, how many know markers, how many take wide messages, and how
+    /// many have the calls of appointments.
     directed: usize,
     marked: usize,
     wide: usize,
+    appointed: usize,
     /// How many of them are timed.
     timed: usize,
     /// Whether the calls go by a directory.
@@ -314,15 +318,16 @@ impl Programs {
         let named = |name: &str| var(name).ok().map(|path| Archive::loaded(&path)).transpose();
         let library = named("ANAQSIRO_NOW")?.unwrap_or_else(Archive::linked);
         let mut all: Vec<Box<dyn Library>> = vec![Box::new(library), Box::new(Plain)];
-        let (mut directed, mut wide) = (all.len(), all.len());
+        let [mut directed, mut wide, mut appointed] = [all.len(); 3];
         if let Some(before) = named("ANAQSIRO_BEFORE")? {
             all.push(Box::new(before));
             let known = |name| usize::from(var("ANAQSIRO_BEFORE").is_ok_and(|path| has(&path, name)));
             directed += known("anaqsiro_directory");
             wide += known("anaqsiro_wide");
+            appointed += known("anaqsiro_move");
         }
         let marked = all.iter().take_while(|library| record_of(library.as_ref()) == RECORD).count();
-        Ok(Programs { timed: all.len(), all, directed, marked, wide, by: false })
+        Ok(Programs { timed: all.len(), all, directed, marked, wide, appointed, by: false })
     }
 
     /// Each program with a block of its own, made by the function given. Where the calls go by a directory, the library without
@@ -724,6 +729,7 @@ fn main() -> Result<(), String> {
     lookups();
     firms::tables(&mut programs);
     wide::tables(&mut programs);
+    appointments::tables(&mut programs);
     programs.by = true;
     tables(&programs);
     firms::tables(&mut programs);

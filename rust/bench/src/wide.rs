@@ -52,7 +52,7 @@ impl Sent {
 
     /// Sends it, whole or in pairs; the number of the whole.
     fn to(&self, runner: &mut Runner) -> Option<u64> {
-        if !runner.in_pairs {
+        if !runner.one_by_one {
             return Some(runner.wide(&self.wide));
         }
         for pair in &self.pairs {
@@ -75,7 +75,7 @@ fn line(programs: &Programs, what: &str, sent: &[Sent], number: u32, made: impl 
     let mut runners = programs.with(&made);
     let library = programs.all[0].as_ref();
     let pairs = if programs.by { Runner::by(library, made(library)) } else { Runner::without(library, made(library)) };
-    runners.push(Runner { in_pairs: true, ..pairs });
+    runners.push(Runner { one_by_one: true, ..pairs });
     for one in sent {
         let answers = runners.iter_mut().filter_map(|runner| one.to(runner)).collect::<Vec<_>>();
         assert!(answers.iter().all(|&answer| answer == packed(number, 0)), "{what}: {answers:?}");

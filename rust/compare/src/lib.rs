@@ -87,6 +87,11 @@ functions! {
     may_by = anaqsiro_may_by: unsafe extern "C" fn(*const u8, usize, *const u16, usize, u64, u64, u64) -> u64,
     write_by = anaqsiro_write_by: unsafe extern "C" fn(*const u8, usize, *const u16, usize, u64, u64, *mut u8, usize) -> u64,
     read_by = anaqsiro_read_by: unsafe extern "C" fn(*mut u8, usize, *mut u16, usize, u64, u64, *const u8, usize) -> u64,
+    day = anaqsiro_day: unsafe extern "C" fn(u64, u64, u64) -> u64,
+    date = anaqsiro_date: unsafe extern "C" fn(u64) -> u64,
+    move_to = anaqsiro_move: unsafe extern "C" fn(*mut u8, usize, *const u8, usize, u64, u64) -> u64,
+    next_change = anaqsiro_next_change: unsafe extern "C" fn(*const u8, usize, u64) -> u64,
+    stands = anaqsiro_stands: unsafe extern "C" fn(*const u8, usize, u64) -> u64,
 }
 
 // SAFETY: each pointer and length below are those of one slice, borrowed for the call.
@@ -167,5 +172,25 @@ impl Library for Archive {
     fn read_by(&self, block: &mut [u8], directory: &mut [u16], kind: u64, key: u64, text: &[u8]) -> u64 {
         let (entries, many) = (directory.as_mut_ptr(), directory.len());
         unsafe { (self.read_by)(block.as_mut_ptr(), block.len(), entries, many, kind, key, text.as_ptr(), text.len()) }
+    }
+
+    fn day(&self, year: u64, month: u64, day: u64) -> u64 {
+        unsafe { (self.day)(year, month, day) }
+    }
+
+    fn date(&self, day: u64) -> u64 {
+        unsafe { (self.date)(day) }
+    }
+
+    fn move_to(&self, block: &mut [u8], list: &[u8], old: u64, new: u64) -> u64 {
+        unsafe { (self.move_to)(block.as_mut_ptr(), block.len(), list.as_ptr(), list.len(), old, new) }
+    }
+
+    fn next_change(&self, list: &[u8], day: u64) -> u64 {
+        unsafe { (self.next_change)(list.as_ptr(), list.len(), day) }
+    }
+
+    fn stands(&self, appointment: &[u8], day: u64) -> u64 {
+        unsafe { (self.stands)(appointment.as_ptr(), appointment.len(), day) }
     }
 }

@@ -5,10 +5,14 @@
 use bound::open;
 use second::drive::{packed, Library};
 
+mod appointments;
 mod bound;
+mod calendar;
 mod directory;
 mod wide;
 
+pub use appointments::{move_to, next_change, stands, APPOINTMENT, MOST as APPOINTMENTS};
+pub use calendar::{date, day};
 pub use directory::{directory, may_by, message_by, read_by, rights_by, wide_by, write_by, ENTRIES};
 pub use wide::{wide, LIST};
 
@@ -885,5 +889,25 @@ impl Library for Plain {
 
     fn read_by(&self, block: &mut [u8], directory: &mut [u16], kind: u64, key: u64, text: &[u8]) -> u64 {
         both(read_by(block, directory, kind, key, text))
+    }
+
+    fn day(&self, year: u64, month: u64, of_month: u64) -> u64 {
+        both(day(year, month, of_month))
+    }
+
+    fn date(&self, day: u64) -> u64 {
+        both(date(day))
+    }
+
+    fn move_to(&self, block: &mut [u8], list: &[u8], old: u64, new: u64) -> u64 {
+        packed(move_to(block, list, old, new), 0)
+    }
+
+    fn next_change(&self, list: &[u8], day: u64) -> u64 {
+        both(next_change(list, day))
+    }
+
+    fn stands(&self, appointment: &[u8], day: u64) -> u64 {
+        both(stands(appointment, day))
     }
 }

@@ -1,9 +1,14 @@
 //! The plain program and the second program agree, so that the times compare the same work.
 
-use second::drive::run;
+use second::drive::{every_day, run};
 
 #[test]
 fn on_many_cases() {
-    let tally = run(&plain::Plain, 20_000, 7).unwrap_or_else(|what| panic!("{what}"));
+    let tally = run(&plain::Plain, 24_000, 7).unwrap_or_else(|what| panic!("{what}"));
     tally.complete().unwrap_or_else(|what| panic!("{what}"));
+}
+
+#[test]
+fn on_every_day() {
+    every_day(&plain::Plain).unwrap_or_else(|what| panic!("{what}"));
 }

@@ -13,9 +13,17 @@ use std::collections::{BTreeMap, BTreeSet};
 use std::fmt::Debug;
 use std::ops::Range;
 
+mod appointments;
 mod by;
+mod days;
+mod history;
+mod lists;
 mod markers;
+mod moves;
 mod wide;
+
+use appointments::Appointed;
+pub use days::every_day;
 
 /// The calls, each returning the refusal's number times 2^32 plus a value, as the C interface does.
 pub trait Library {
@@ -37,6 +45,11 @@ pub trait Library {
     fn may_by(&self, block: &[u8], directory: &[u16], user: u64, object: u64, request: u64) -> u64;
     fn write_by(&self, block: &[u8], directory: &[u16], kind: u64, key: u64, out: &mut [u8]) -> u64;
     fn read_by(&self, block: &mut [u8], directory: &mut [u16], kind: u64, key: u64, text: &[u8]) -> u64;
+    fn day(&self, year: u64, month: u64, day: u64) -> u64;
+    fn date(&self, day: u64) -> u64;
+    fn move_to(&self, block: &mut [u8], list: &[u8], old: u64, new: u64) -> u64;
+    fn next_change(&self, list: &[u8], day: u64) -> u64;
+    fn stands(&self, appointment: &[u8], day: u64) -> u64;
 }
 
 /// A number and a value as the calls return them.
@@ -192,9 +205,11 @@ const TO_MEET: &[(&str, &str, &[i64])] = &[
     ("count", "number too great, that names a record by its last bits", &[16, 32]),
 ];
 
-/// The lines of `TO_MEET`, those of wide messages, those of the markers and those of the calls by a directory.
+/// The lines of `TO_MEET`, those of wide messages, those of the markers, those of the calls by a directory, and those of
+/// appointments.
 fn to_meet() -> impl Iterator<Item = (&'static str, &'static str, &'static [i64])> {
-    let more = [wide::TO_MEET, markers::TO_MEET, by::TO_MEET].concat().into_iter();
+    let appointments = [days::TO_MEET, lists::TO_MEET, appointments::TO_MEET, moves::TO_MEET, history::TO_MEET].concat();
+    let more = [wide::TO_MEET, markers::TO_MEET, by::TO_MEET, &appointments].concat().into_iter();
     let more = more.flat_map(|(calls, what, all)| calls.iter().map(move |&call| (call, what, all)));
     TO_MEET.iter().copied().chain(more)
 }
@@ -263,7 +278,7 @@ const PLAIN: Form = Form {
 };
 
 /// One call in the making: the library, the block that it is made on, the records of that block or of one like it, the
-/// directory that the library last made or kept true, and whether that one is to be lent.
+/// directory that the library last made or kept true, whether that one is to be lent, and the appointments of the case.
 struct Call<'a> {
     lib: &'a dyn Library,
     rng: &'a mut Rng,
@@ -273,6 +288,7 @@ struct Call<'a> {
     index: &'a Index,
     kept: &'a mut Vec<u16>,
     keeping: bool,
+    appointed: &'a mut Appointed,
 }
 
 impl Call<'_> {
@@ -315,14 +331,19 @@ impl Call<'_> {
         }
     }
 
-    /// Sends a message of the form.
+    /// Sends a message of the form that is drawn.
     fn sent(&mut self, form: &Form) -> Result<Vec<u8>, String> {
         let m = (form.drawn)(self);
-        let (number, after) = (form.second)(self.block, &m);
-        let (mut b, mut lent) = (Lent::new(self.block), Lent::new(&m));
+        self.send(form, &m)
+    }
+
+    /// Sends this message of the form.
+    fn send(&mut self, form: &Form, m: &[u8]) -> Result<Vec<u8>, String> {
+        let (number, after) = (form.second)(self.block, m);
+        let (mut b, mut lent) = (Lent::new(self.block), Lent::new(m));
         let got = (form.lib)(self.lib, b.lend(), lent.lend());
-        self.agree(got, number, 0, &[b.is(&after), lent.is(&m)], format!("{m:02x?}"))?;
-        self.saw_message(form, number, &m, &after);
+        self.agree(got, number, 0, &[b.is(&after), lent.is(m)], format!("{m:02x?}"))?;
+        self.saw_message(form, number, m, &after);
         Ok(after)
     }
 
@@ -757,10 +778,11 @@ impl Call<'_> {
 /// A door to a block, as a library is asked.
 type Door<'a> = &'a dyn Fn(&dyn Library, &[u8]) -> u64;
 
-type Made = fn(&mut Call) -> Result<Vec<u8>, String>;
+/// The block after a call, or why the two programs disagree.
+type After = Result<Vec<u8>, String>;
 
 /// A call by name, and how often it is drawn.
-type Often = (&'static str, u64, Made);
+type Often = (&'static str, u64, fn(&mut Call) -> After);
 
 /// The calls, each as often as it is drawn among 29.
 const CALLS: [Often; 18] = [
@@ -796,8 +818,8 @@ fn drawn(rng: &mut Rng, calls: &[Often]) -> Often {
     unreachable!("a call is drawn")
 }
 
-/// The calls of one case: the library, the block and the directory that the calls before left, and whether that directory is to
-/// be lent.
+/// The calls of one case: the library, the block and the directory that the calls before left, whether that directory is to be
+/// lent, and the appointments.
 struct Case<'a> {
     lib: &'a dyn Library,
     rng: &'a mut Rng,
@@ -805,15 +827,45 @@ struct Case<'a> {
     block: Vec<u8>,
     kept: Vec<u16>,
     keeping: bool,
+    appointed: Appointed,
 }
 
-impl Case<'_> {
+impl<'a> Case<'a> {
+    /// A case on a block, without appointments.
+    fn new(lib: &'a dyn Library, rng: &'a mut Rng, tally: &'a mut Tally, block: Vec<u8>) -> Case<'a> {
+        let kept = index_of(&block).directory();
+        Case { lib, rng, tally, block, kept, keeping: false, appointed: Appointed::default() }
+    }
+
     /// Makes one of these calls on the block, which has these records or is like one that has. The next is made on what it left.
     fn one(&mut self, index: &Index, calls: &[Often]) -> Result<(), String> {
         let (name, _, made) = drawn(self.rng, calls);
-        let Case { lib, rng, tally, block, kept, keeping } = self;
-        let mut call = Call { lib: *lib, rng, tally, name, block, index, kept, keeping: *keeping };
+        self.call(name, index, made)
+    }
+
+    /// Makes this call.
+    fn call(&mut self, name: &'static str, index: &Index, made: impl FnOnce(&mut Call) -> After) -> Result<(), String> {
+        let Case { lib, rng, tally, block, kept, keeping, appointed } = self;
+        let mut call = Call { lib: *lib, rng, tally, name, block, index, kept, keeping: *keeping, appointed };
         self.block = made(&mut call).map_err(|what| format!("{what}\nblock {block:02x?}"))?;
+        Ok(())
+    }
+
+    /// Some of these calls, one after the other.
+    fn some(&mut self, calls: &[Often]) -> Result<(), String> {
+        for _ in 0..1 + self.rng.below(15) {
+            self.one(&index_of(&self.block), calls)?;
+        }
+        Ok(())
+    }
+
+    /// One more of these calls, on the block with one fault.
+    fn one_with_a_fault(&mut self, calls: &[Often]) -> Result<(), String> {
+        if self.block.len() >= HEADER {
+            let index = index_of(&self.block);
+            gen::damage(self.rng, &mut self.block);
+            self.one(&index, calls)?;
+        }
         Ok(())
     }
 }
@@ -823,23 +875,18 @@ fn index_of(block: &[u8]) -> Index {
     Index::decode(block).unwrap_or_else(|_| Index::empty(block.len()))
 }
 
-/// A block, some calls one after the other, and one more on the block with one fault.
+/// A block, and calls on it: every sixth time those of appointments.
 fn one_case(lib: &dyn Library, rng: &mut Rng, tally: &mut Tally) -> Result<(), String> {
+    if rng.one_in(6) {
+        return appointments::case(lib, rng, tally);
+    }
     let block = if rng.one_in(40) { gen::bytes(rng, 120) } else { gen::index(rng).encode() };
-    let kept = index_of(&block).directory();
-    let mut case = Case { lib, rng, tally, block, kept, keeping: false };
+    let mut case = Case::new(lib, rng, tally, block);
     if case.rng.one_in(20) {
         return case.stream();
     }
-    for _ in 0..1 + case.rng.below(15) {
-        case.one(&index_of(&case.block), &CALLS)?;
-    }
-    if case.block.len() >= HEADER {
-        let index = index_of(&case.block);
-        gen::damage(case.rng, &mut case.block);
-        case.one(&index, &CALLS)?;
-    }
-    Ok(())
+    case.some(&CALLS)?;
+    case.one_with_a_fault(&CALLS)
 }
 
 /// Runs the cases; the first disagreement, with what leads to it, ends the run.

@@ -5,6 +5,7 @@ use crate::{ALL, CHAIN, COUNTS, F, FLAGS, GREATEST, HALF, HALVES, HEADER, KIND, 
 use crate::{ENTRIES, M, MESSAGE, N, NAMES, P, PART_ENTRIES, RECORD, RIGHTS, ROOM};
 use std::collections::BTreeMap;
 
+pub mod appointments;
 mod firms;
 mod wide;
 

@@ -6,7 +6,9 @@ use std::collections::{BTreeMap, BTreeSet};
 use std::ops::Range;
 use std::sync::LazyLock;
 
+pub mod appointments;
 mod bound;
+pub mod calendar;
 mod directory;
 pub mod drive;
 mod examined;
@@ -15,7 +17,9 @@ mod growth;
 mod sides;
 mod wide;
 
+pub use appointments::{move_to, next_change, stands, Appointment};
 use bound::{member, RULE};
+pub use calendar::{date, day};
 pub use directory::{directory, may_by, message_by, read_by, rights_by, wide_by, write_by, ENTRIES, PART_ENTRIES};
 use examined::examined;
 pub use wide::{wide, Lists, Wide, LIST, WIDE};
@@ -610,6 +614,8 @@ pub fn standing(input: &[u8]) -> Vec<u8> {
     printed
 }
 
+#[cfg(test)]
+mod appointed;
 #[cfg(test)]
 mod marked;
 #[cfg(test)]

@@ -208,18 +208,18 @@ fn faults_of_list(m: &[u8], &Listed { number, length, start, .. }: &Listed) -> V
     faults
 }
 
-/// How the steps of a message went: how many pairs were taken, how many were added, how many records that removed and inserted, and
-/// the number that ended them.
+/// How the steps of a message, or of a move, went: how many pairs were taken, how many were added, how many records that removed and
+/// inserted, and the number that ended them.
 #[derive(Default)]
-struct Steps {
-    taken: usize,
-    added: usize,
-    removed: usize,
-    inserted: usize,
-    number: u32,
+pub struct Steps {
+    pub taken: usize,
+    pub added: usize,
+    pub removed: usize,
+    pub inserted: usize,
+    pub number: u32,
 }
 
-fn steps<'a>(mut index: Index, kind: usize, takes: &[Half], adds: impl Iterator<Item = &'a Half>) -> Steps {
+pub fn steps<'a>(mut index: Index, kind: usize, takes: &[Half], adds: impl Iterator<Item = &'a Half>) -> Steps {
     let mut steps = Steps::default();
     for half in takes {
         let before = index.records();
@@ -241,7 +241,7 @@ fn steps<'a>(mut index: Index, kind: usize, takes: &[Half], adds: impl Iterator<
 }
 
 /// The first of so many, one inside, or the last.
-fn place(at: usize, many: usize) -> i64 {
+pub fn place(at: usize, many: usize) -> i64 {
     i64::from(at > 0) + i64::from(at == many - 1)
 }
 

@@ -6,13 +6,15 @@ use std::fs;
 use std::path::{Path, PathBuf};
 use std::process::{Command, Stdio};
 
+mod appointments;
+mod days;
 mod markers;
 mod wide;
 
 /// What the fault is, the text in plain/src, and what is put in its place.
 type Fault = (&'static str, &'static str, &'static str);
 
-/// The faults but for those of markers and of wide messages.
+/// The faults but for those of markers, of wide messages, of days and of appointments.
 const FAULTS: &[Fault] = &[
     ("a block that is a byte too short is one that is not good", "if b.len() < HEADER || b.len() > GREATEST {\n        return Err(1);\n    }\n    let at", "if b.len() + 1 == HEADER {\n        return Err(2);\n    }\n    if b.len() < HEADER || b.len() > GREATEST {\n        return Err(1);\n    }\n    let at"),
     ("a block that is a byte too long is taken", "b.len() > GREATEST {\n        return 1;\n    }\n    b.fill(0);", "b.len() > GREATEST + 1 {\n        return 1;\n    }\n    b.fill(0);"),
@@ -264,7 +266,8 @@ fn main() -> std::io::Result<()> {
         .map(|entry| entry.map(|entry| entry.path()).and_then(|path| Ok((path.clone(), fs::read_to_string(path)?))))
         .collect::<std::io::Result<_>>()?;
     let words = std::env::args().nth(1).unwrap_or_default();
-    let faults: Vec<&Fault> = FAULTS.iter().chain(markers::FAULTS).chain(wide::FAULTS).filter(|fault| fault.0.contains(&words)).collect();
+    let all = [FAULTS, markers::FAULTS, wide::FAULTS, days::FAULTS, appointments::FAULTS];
+    let faults: Vec<&Fault> = all.into_iter().flatten().filter(|fault| fault.0.contains(&words)).collect();
     let places: Vec<&Source> = faults.iter().map(|(what, old, _)| place(&sources, what, old)).collect();
     assert!(matches!(compared(&folder)?, End::Agreed), "the program without a fault disagrees");
     let mut missed = 0;
