@@ -1,6 +1,6 @@
 /* Tests what the header gives beside the calls of the rules, as C99 and as C++11: the helpers, messages and wide messages, the
  * longest text, the places of wrong texts, the parts of a full question's answer, the calls that go through a block record by
- * record, and a directory. */
+ * record, a directory, dates, and appointments with each number of each call for them. */
 #include "anaqsiro.h"
 
 #include <stdio.h>
@@ -52,6 +52,10 @@ static void test_lengths(void) {
     same("the longest text", ANAQSIRO_TEXT_MAX, 54185);
     same("a part", ANAQSIRO_DIRECTORY_PART, 1025);
     same("a directory", ANAQSIRO_DIRECTORY_LENGTH, 3075);
+    same("an appointment", ANAQSIRO_APPOINTMENT, 12);
+    same("the longest list of appointments", ANAQSIRO_APPOINTMENTS_MAX, 3072);
+    same("the first day", anaqsiro_day(ANAQSIRO_FIRST_YEAR, 1, 1), 0);
+    same("the last day", anaqsiro_day(ANAQSIRO_LAST_YEAR, 12, 31), ANAQSIRO_LAST_DAY);
 }
 
 /* Each mask as letters and back, and words that are not in order, empty, or of other bytes. */
@@ -82,12 +86,14 @@ static void test_refusals(void) {
     same_words("0", anaqsiro_refusal_text(0), "accepted");
     same_words("1", anaqsiro_refusal_text(1), lengths);
     for (uint64_t number = 0; number <= ANAQSIRO_DIRECTORY_NOT_OWN; number++) {
-        const int known = number <= ANAQSIRO_TEXT_LONG || number == ANAQSIRO_DIRECTORY_NOT_OWN;
+        const int known = number != 11;
         same("known", strcmp(anaqsiro_refusal_text(number), "unknown") != 0, known);
         for (uint64_t before = 0; known && before < number; before++) {
             same("own words", strcmp(anaqsiro_refusal_text(number), anaqsiro_refusal_text(before)) == 0, 0);
         }
     }
+    same_words("12", anaqsiro_refusal_text(12),
+               "a 257th appointment, a date that is none, or a day, date, term or anniversary outside the range");
     same_words("13", anaqsiro_refusal_text(13), "the lent directory has the wrong length or is not the block's own");
     same_words("14", anaqsiro_refusal_text(ANAQSIRO_DIRECTORY_NOT_OWN + 1), "unknown");
     same_words("2^32", anaqsiro_refusal_text((uint64_t)1 << 32), "unknown");
@@ -638,6 +644,252 @@ static void test_left_behind(void) {
     same("by it again", call_may(&one, one.directory, sizeof one.block, ANAQSIRO_DIRECTORY_LENGTH), 1);
 }
 
+/* A date, and its day; a refused one has no parts. */
+static void test_dates(void) {
+    static const uint64_t dates[][4] = {
+        {1970, 1, 1, 0},      {1970, 12, 31, 364},  {1972, 2, 29, 789},  {2000, 2, 29, 11016},   {2024, 2, 29, 19782},
+        {2025, 2, 28, 20147}, {2100, 2, 28, 47540}, {2100, 3, 1, 47541}, {2399, 12, 31, 157053},
+    };
+    static const uint64_t none[][3] = {
+        {1969, 12, 31}, {2400, 1, 1},  {2400, 2, 29}, {2025, 2, 29}, {2100, 2, 29},  {2024, 4, 31},
+        {2024, 0, 1},   {2024, 13, 1}, {2024, 1, 0},  {2024, 1, 32}, {2024, 257, 1}, {67560, 1, 1},
+    };
+    const uint64_t refused = (uint64_t)ANAQSIRO_OUTSIDE_RANGE << 32;
+    for (size_t i = 0; i < sizeof dates / sizeof *dates; i++) {
+        const uint64_t *date = dates[i], answer = anaqsiro_date(date[3]);
+        same("day", anaqsiro_day(date[0], date[1], date[2]), date[3]);
+        same("date", answer, date[2] + 32 * date[1] + 512 * date[0]);
+        same("year", anaqsiro_date_year(answer), date[0]);
+        same("month", anaqsiro_date_month(answer), date[1]);
+        same("day of the month", anaqsiro_date_day(answer), date[2]);
+    }
+    for (size_t i = 0; i < sizeof none / sizeof *none; i++) {
+        same("no date", anaqsiro_day(none[i][0], none[i][1], none[i][2]), refused);
+    }
+    same("after the last day", anaqsiro_date(ANAQSIRO_LAST_DAY + 1), refused);
+    same("far after it", anaqsiro_date((uint64_t)1 << 32), refused);
+    same("parts of none", anaqsiro_date_year(refused) + anaqsiro_date_month(refused) + anaqsiro_date_day(refused), 0);
+}
+
+/* The bytes of an appointment with each marker and without, and what is read from them. */
+static void test_appointment_bytes(void) {
+    static const uint64_t masks[] = {5, 5 + ANAQSIRO_X, 5 + ANAQSIRO_N, 5 + ANAQSIRO_X + ANAQSIRO_N};
+    for (uint64_t marker = 0; marker < 4; marker++) {
+        const struct anaqsiro_appointment one = {{0x102, 0x304, masks[marker]}, 2024, 2, 29, 12};
+        const uint8_t wanted[] = {0x02, 0x01, 0x04, 0x03, 5, (uint8_t)marker, 0xE8, 0x07, 2, 29, 12, 0};
+        uint8_t bytes[ANAQSIRO_APPOINTMENT + 1];
+        memset(bytes, 0xA5, sizeof bytes);
+        anaqsiro_put_appointment(bytes, &one);
+        same("an appointment", memcmp(bytes, wanted, sizeof wanted) == 0, 1);
+        same("behind it", bytes[ANAQSIRO_APPOINTMENT], 0xA5);
+        const struct anaqsiro_appointment got = anaqsiro_get_appointment(bytes);
+        same("what it was made of", memcmp(&got, &one, sizeof one) == 0, 1);
+    }
+}
+
+/* Which number of an appointment is another. */
+enum part { AS_IT_IS, A_KEY, AN_ID, A_MASK, A_YEAR, A_MONTH, A_DAY, A_TERM };
+
+/* An appointment that is right but for one number: 1 is in group 2 with R for twelve months from 29 February 2024. */
+static void put_other(uint8_t *at, enum part part, uint64_t number) {
+    struct anaqsiro_appointment one = {{1, 2, ANAQSIRO_READ}, 2024, 2, 29, 12};
+    uint64_t *const parts[] = {NULL,      &one.membership.key, &one.membership.id, &one.membership.mask,
+                               &one.year, &one.month,          &one.day,           &one.term};
+    if (part != AS_IT_IS) {
+        *parts[part] = number;
+    }
+    anaqsiro_put_appointment(at, &one);
+}
+
+/* Every call for appointments gives the number for a list, and that before the 6 of a move. */
+static void all_give(const char *what, const uint8_t *list, size_t length, uint32_t number) {
+    const uint64_t refused = (uint64_t)number << 32;
+    uint8_t block[ANAQSIRO_BLOCK_MIN], before[sizeof block];
+    anaqsiro_make(block, sizeof block);
+    memcpy(before, block, sizeof block);
+    same(what, anaqsiro_move(block, sizeof block, list, length, 0, 1), refused);
+    same(what, anaqsiro_move(block, sizeof block, list, length, 20146, 20147),
+         number == ANAQSIRO_ACCEPTED ? (uint64_t)ANAQSIRO_NOTHING_TO_TAKE << 32 : refused);
+    same(what, memcmp(block, before, sizeof block) == 0, 1);
+    same(what, anaqsiro_next_change(list, length, 20146), number == ANAQSIRO_ACCEPTED ? 20147 : refused);
+    if (length == ANAQSIRO_APPOINTMENT) {
+        same(what, anaqsiro_stands(list, length, 20146), number == ANAQSIRO_ACCEPTED ? 1 : refused);
+    }
+}
+
+/* One appointment with another number in one place, and the same behind one that is right. */
+static void test_one_other(const char *what, enum part part, uint64_t number, uint32_t refusal) {
+    uint8_t list[2 * ANAQSIRO_APPOINTMENT];
+    put_other(list, AS_IT_IS, 0);
+    put_other(list + ANAQSIRO_APPOINTMENT, part, number);
+    all_give(what, list, sizeof list, refusal);
+    all_give(what, list + ANAQSIRO_APPOINTMENT, ANAQSIRO_APPOINTMENT, refusal);
+}
+
+/* Each number of an appointment at its limits, above them, and too great for its bytes. */
+static void test_appointment_numbers(void) {
+    const uint32_t range = ANAQSIRO_OUTSIDE_RANGE;
+    test_one_other("as it is", AS_IT_IS, 0, ANAQSIRO_ACCEPTED);
+    test_one_other("the greatest name", A_KEY, ANAQSIRO_NAMES - 1, ANAQSIRO_ACCEPTED);
+    test_one_other("a key above it", A_KEY, ANAQSIRO_NAMES, ANAQSIRO_NAME);
+    test_one_other("an id above it", AN_ID, ANAQSIRO_NAMES, ANAQSIRO_NAME);
+    test_one_other("all rights", A_MASK, ANAQSIRO_ALL + ANAQSIRO_X, ANAQSIRO_ACCEPTED);
+    test_one_other("no letter", A_MASK, 0, ANAQSIRO_MASK);
+    test_one_other("a marker alone", A_MASK, ANAQSIRO_N, ANAQSIRO_MASK);
+    test_one_other("a denial", A_MASK, ANAQSIRO_NO_CREATE, ANAQSIRO_MASK);
+    test_one_other("bits of no letter", A_MASK, 1025, ANAQSIRO_MASK);
+    test_one_other("both markers", A_MASK, anaqsiro_mask("RXN"), ANAQSIRO_FORM);
+    test_one_other("no leap year", A_YEAR, 2023, range);
+    test_one_other("too early", A_YEAR, 1968, range);
+    test_one_other("too late", A_YEAR, 2400, range);
+    test_one_other("month 0", A_MONTH, 0, range);
+    test_one_other("month 13", A_MONTH, 13, range);
+    test_one_other("day 0", A_DAY, 0, range);
+    test_one_other("day 30 of February", A_DAY, 30, range);
+    test_one_other("a term of 0", A_TERM, 0, range);
+    test_one_other("a term of 121", A_TERM, ANAQSIRO_TERM_MAX + 1, range);
+    for (unsigned bit = 8; bit < 64; bit++) {
+        const uint64_t more = (uint64_t)1 << bit;
+        test_one_other("a wide key", A_KEY, 1 + more, bit < 10 ? (uint32_t)ANAQSIRO_ACCEPTED : (uint32_t)ANAQSIRO_NAME);
+        test_one_other("a wide id", AN_ID, 2 + more, bit < 10 ? (uint32_t)ANAQSIRO_ACCEPTED : (uint32_t)ANAQSIRO_NAME);
+        test_one_other("a wide mask", A_MASK, 2 + more, bit < 10 ? (uint32_t)ANAQSIRO_ACCEPTED : (uint32_t)ANAQSIRO_MASK);
+        test_one_other("a wide year", A_YEAR, 2400 + more, range);
+        test_one_other("a wide month", A_MONTH, 2 + more, range);
+        test_one_other("a wide day", A_DAY, 29 + more, range);
+        test_one_other("a wide term", A_TERM, 12 + more, range);
+    }
+}
+
+/* What is wrong with the form of a list: its length, a marker, a last byte. 3 comes before 4, 4 before 5, 5 before 12, wherever
+ * they stand; and 12 is for a 257th appointment, too. */
+static void test_lists(void) {
+    static uint8_t list[ANAQSIRO_APPOINTMENTS_MAX + ANAQSIRO_APPOINTMENT];
+    const size_t one = ANAQSIRO_APPOINTMENT, last = sizeof list - one;
+    uint8_t byte_more[ANAQSIRO_APPOINTMENT + 1] = {0};
+    for (size_t at = 0; at < sizeof list; at += one) {
+        put_other(list + at, AS_IT_IS, 0);
+    }
+    all_give("256 appointments", list, last, ANAQSIRO_ACCEPTED);
+    all_give("257 appointments", list, sizeof list, ANAQSIRO_OUTSIDE_RANGE);
+    put_other(list + last, A_MASK, 0);
+    all_give("5 in the 257th", list, sizeof list, ANAQSIRO_MASK);
+    put_other(list, A_KEY, ANAQSIRO_NAMES);
+    all_give("4 before it", list, sizeof list, ANAQSIRO_NAME);
+    list[last + ANAQSIRO_APPOINTMENT_MARKER_AT] = 3;
+    all_give("3 behind it", list, sizeof list, ANAQSIRO_FORM);
+    for (unsigned value = 0; value < 256; value++) {
+        put_other(list, AS_IT_IS, 0);
+        list[ANAQSIRO_APPOINTMENT_MARKER_AT] = (uint8_t)value;
+        all_give("a marker", list, one, value <= 2 ? (uint32_t)ANAQSIRO_ACCEPTED : (uint32_t)ANAQSIRO_FORM);
+        put_other(list, AS_IT_IS, 0);
+        list[one - 1] = (uint8_t)value;
+        all_give("a last byte", list, one, value == 0 ? (uint32_t)ANAQSIRO_ACCEPTED : (uint32_t)ANAQSIRO_FORM);
+    }
+    memcpy(byte_more, list + one, one);
+    for (size_t length = 1; length < one; length++) {
+        all_give("a short list", byte_more, length, ANAQSIRO_FORM);
+        same("a short appointment", anaqsiro_number(anaqsiro_stands(byte_more, length, 0)), ANAQSIRO_FORM);
+    }
+    all_give("a byte more", byte_more, sizeof byte_more, ANAQSIRO_FORM);
+    same("an appointment of 13 bytes", anaqsiro_number(anaqsiro_stands(byte_more, sizeof byte_more, 0)), ANAQSIRO_FORM);
+    same("two appointments", anaqsiro_number(anaqsiro_stands(list + one, 2 * one, 0)), ANAQSIRO_FORM);
+    same("no appointment", anaqsiro_number(anaqsiro_stands(NULL, 0, 0)), ANAQSIRO_FORM);
+    same("an empty list", anaqsiro_next_change(NULL, 0, 0), 0);
+}
+
+/* A first date and a term, and the day on which it stands no more; 0 for one that is outside the range. */
+struct term {
+    uint64_t year, month, day, term, anniversary;
+};
+
+static const struct term terms[] = {
+    {2024, 2, 29, 12, 20147},    {2024, 2, 29, 48, 21243},  {2024, 1, 31, 1, 19782},   {2023, 1, 31, 1, 19416},
+    {2024, 8, 31, 1, 19996},     {2024, 8, 31, 6, 20147},   {2024, 12, 31, 2, 20147},  {1970, 1, 1, 1, 31},
+    {1970, 1, 1, 120, 3652},     {2100, 2, 28, 120, 51192}, {2399, 11, 30, 1, 157052}, {2399, 11, 29, 1, 157051},
+    {2389, 12, 31, 120, 157053}, {2390, 1, 1, 120, 0},      {2399, 12, 1, 1, 0},       {2399, 12, 31, 1, 0},
+};
+
+/* It stands from its first day up to the day before the anniversary, and the next changes are just these two days. */
+static void test_terms(void) {
+    for (const struct term *one = terms; one < terms + sizeof terms / sizeof *terms; one++) {
+        const struct anaqsiro_appointment appointment = {{1, 2, 1}, one->year, one->month, one->day, one->term};
+        const uint64_t first = anaqsiro_day(one->year, one->month, one->day), end = one->anniversary;
+        const uint64_t refused = (uint64_t)ANAQSIRO_OUTSIDE_RANGE << 32;
+        uint8_t list[ANAQSIRO_APPOINTMENT];
+        anaqsiro_put_appointment(list, &appointment);
+        same("the first day", anaqsiro_stands(list, sizeof list, first), end == 0 ? refused : 1);
+        same("the next change", anaqsiro_next_change(list, sizeof list, first), end == 0 ? refused : end);
+        if (end != 0) {
+            same("before it", first == 0 ? 0 : anaqsiro_stands(list, sizeof list, first - 1), 0);
+            same("the first change", first == 0 ? 0 : anaqsiro_next_change(list, sizeof list, 0), first);
+            same("the day before the anniversary", anaqsiro_stands(list, sizeof list, end - 1), 1);
+            same("the anniversary", anaqsiro_stands(list, sizeof list, end), 0);
+            same("the change on the day before", anaqsiro_next_change(list, sizeof list, end - 1), end);
+            same("no change after it", anaqsiro_next_change(list, sizeof list, end), 0);
+            same("the last day", anaqsiro_stands(list, sizeof list, ANAQSIRO_LAST_DAY), 0);
+            same("after the last day", anaqsiro_stands(list, sizeof list, ANAQSIRO_LAST_DAY + 1), refused);
+            same("a change after it", anaqsiro_next_change(list, sizeof list, ANAQSIRO_LAST_DAY + 1), refused);
+        }
+    }
+}
+
+/* The records of the groups of 1 are as this text has them. */
+static void same_groups(const char *what, const uint8_t *block, size_t len, const char *wanted) {
+    char text[64] = {0};
+    anaqsiro_write(block, len, ANAQSIRO_MEMBERSHIP, 1, (uint8_t *)text, sizeof text - 1);
+    same_words(what, text, wanted);
+}
+
+/* A move is refused with the number, and the block is as it was. */
+static void move_refused(const char *what, uint8_t *block, size_t len, const uint8_t *list, size_t list_len, uint64_t old_day,
+                         uint64_t new_day, uint32_t number) {
+    uint8_t before[ANAQSIRO_BLOCK_MIN + 2 * ANAQSIRO_RECORD];
+    memcpy(before, block, len);
+    same(what, anaqsiro_move(block, len, list, list_len, old_day, new_day), (uint64_t)number << 32);
+    same(what, memcmp(before, block, len) == 0, 1);
+}
+
+/* Three appointments of 1 on a block with room for two records: moves to each day and back, and what refuses one. Each of them
+ * stands from the first of a month up to the first of the next but one: from day 19,723, 19,754 and 19,783 on. */
+static void test_moves(void) {
+    const struct anaqsiro_appointment made[] = {{{1, 2, anaqsiro_mask("RX")}, 2024, 1, 1, 2},
+                                                {{1, 2, anaqsiro_mask("RUN")}, 2024, 2, 1, 2},
+                                                {{1, 3, 1}, 2024, 3, 1, 2}};
+    static const struct {
+        uint64_t day;
+        const char *groups;
+    } days[] = {{0, ""}, {19722, ""}, {19723, "2;RX"}, {19754, "2;R2UXN"}, {19783, "2;RUN;3;M"}, {19814, "3;M"}, {19844, ""}};
+    const size_t how_many = sizeof days / sizeof *days;
+    uint8_t block[ANAQSIRO_BLOCK_MIN + 2 * ANAQSIRO_RECORD], list[3 * ANAQSIRO_APPOINTMENT];
+    for (size_t i = 0; i < 3; i++) {
+        anaqsiro_put_appointment(list + i * ANAQSIRO_APPOINTMENT, &made[i]);
+    }
+    anaqsiro_make(block, sizeof block);
+    for (size_t pair = 0; pair < how_many * how_many; pair++) {
+        const size_t from = pair / how_many, to = pair % how_many;
+        anaqsiro_make(block, sizeof block);
+        same("there", anaqsiro_move(block, sizeof block, list, sizeof list, ANAQSIRO_LAST_DAY, days[from].day), 0);
+        same_groups("from", block, sizeof block, days[from].groups);
+        same("a move", anaqsiro_move(block, sizeof block, list, sizeof list, days[from].day, days[to].day), 0);
+        same_groups("to", block, sizeof block, days[to].groups);
+    }
+    move_refused("nothing to take", block, sizeof block, list, sizeof list, 19783, 19754, ANAQSIRO_NOTHING_TO_TAKE);
+    move_refused("no room", block, sizeof block - ANAQSIRO_RECORD, list, sizeof list, 0, 19783, ANAQSIRO_NO_ROOM);
+    anaqsiro_read(block, sizeof block, ANAQSIRO_MEMBERSHIP, 1, (const uint8_t *)"2;R65535X", 9);
+    move_refused("a full count", block, sizeof block, list, sizeof list, 0, 19754, ANAQSIRO_COUNT_FULL);
+    same("one taken before", anaqsiro_move(block, sizeof block, list, sizeof list, 19723, 19783), 0);
+    same_groups("and one added", block, sizeof block, "2;R65535UN;3;M");
+    move_refused("a day after the last", block, sizeof block, list, sizeof list, 19783, ANAQSIRO_LAST_DAY + 1,
+                 ANAQSIRO_OUTSIDE_RANGE);
+    move_refused("from such a day", block, sizeof block, list, sizeof list, UINT64_MAX, 0, ANAQSIRO_OUTSIDE_RANGE);
+    move_refused("a wrong list on the same day", block, sizeof block, list, 1, 0, 0, ANAQSIRO_FORM);
+    same("the same day", anaqsiro_move(block, sizeof block, list, sizeof list, 19783, 19783), 0);
+    same("an empty list", anaqsiro_move(block, sizeof block, NULL, 0, 0, 1), 0);
+    move_refused("a short block", block, ANAQSIRO_BLOCK_MIN - 1, list, 1, 0, 0, ANAQSIRO_BLOCK_LENGTH);
+    block[6] = 1; /* this number is to be zero */
+    move_refused("not good", block, sizeof block, list, 1, 0, 0, ANAQSIRO_BLOCK_NOT_GOOD);
+}
+
 int main(void) {
     test_version();
     test_lengths();
@@ -662,6 +914,12 @@ int main(void) {
     test_by();
     test_not_own();
     test_left_behind();
+    test_dates();
+    test_appointment_bytes();
+    test_appointment_numbers();
+    test_lists();
+    test_terms();
+    test_moves();
     printf("include/anaqsiro.h as " LANGUAGE ": %u tests, %u failed\n", tests, failures);
     return failures > 0;
 }

@@ -1,9 +1,9 @@
 /* How many bytes of stack each call takes: it is made on a stack of our own that was painted beforehand, and the deepest byte
  * that lost its paint is looked for. The blocks are such that each call goes as deep as it can: a chain of 40 records for the
  * questions, with X in the one that a chain may end with, a count of five digits for the text, for the messages one that inserts
- * and one that puts back what it took, with 64 pairs in a half of the wide ones. The calls by a directory are made on the same
- * blocks. It fails where a call takes more than LIMIT, or gives another number than it is to: a call that is refused too early
- * takes little. */
+ * and one that puts back what it took, with 64 pairs in a half of the wide ones, for the moves lists of 256 appointments. The calls
+ * by a directory are made on the same blocks. It fails where a call takes more than LIMIT, or gives another number than it is to: a
+ * call that is refused too early takes little. */
 #define _GNU_SOURCE
 #include "anaqsiro.h"
 
@@ -16,6 +16,8 @@
 #define LAST 32u
 #define PAIRS (ANAQSIRO_LIST_MAX * ANAQSIRO_LIST_MAX)
 #define LIMIT (24u * 1024u)
+#define JANUARY 19723u
+#define FEBRUARY 19754u
 
 enum { KEY = 900, FAR = 1000 };
 
@@ -32,6 +34,8 @@ static unsigned failures;
 static uint8_t update[ANAQSIRO_MESSAGE];
 static uint8_t wide_update[ANAQSIRO_WIDE_MAX];
 static size_t wide_length;
+static uint8_t list[ANAQSIRO_APPOINTMENTS_MAX];
+static uint64_t old_day, new_day;
 
 static void add(uint64_t kind, uint64_t key, uint64_t id, uint64_t mask) {
     const struct anaqsiro_half half = {key, id, mask};
@@ -52,6 +56,18 @@ static void put_wide_update(uint64_t taken, uint64_t added, uint64_t far) {
     more.mask = added;
     more.keys[ANAQSIRO_LIST_MAX - 1] = far;
     wide_length = anaqsiro_put_wide(wide_update, ANAQSIRO_FILTER, taken == 0 ? NULL : &previous, &more);
+}
+
+/* The move that is measured, over a list of which one half stands in January 2024 and the other in February, each in so many
+ * records. */
+static void put_move(uint64_t from, uint64_t to, unsigned january, unsigned february) {
+    for (unsigned i = 0; i < ANAQSIRO_APPOINTMENTS; i++) {
+        const unsigned month = 1 + i % 2, name = month == 1 ? 200 + i / 2 % january : 400 + i / 2 % february;
+        const struct anaqsiro_appointment one = {{name, name, ANAQSIRO_ALL | ANAQSIRO_X}, 2024, month, 1, 1};
+        anaqsiro_put_appointment(list + i * ANAQSIRO_APPOINTMENT, &one);
+    }
+    old_day = from;
+    new_day = to;
 }
 
 static uint64_t call_make(void) { return anaqsiro_make(block, sizeof block); }
@@ -84,6 +100,11 @@ static uint64_t call_read_by(void) {
     return anaqsiro_read_by(block, sizeof block, directory, ANAQSIRO_DIRECTORY_LENGTH, ANAQSIRO_PERMISSION, KEY, text,
                             sizeof text - 1);
 }
+static uint64_t call_move(void) { return anaqsiro_move(block, sizeof block, list, sizeof list, old_day, new_day); }
+static uint64_t call_next_change(void) { return anaqsiro_next_change(list, sizeof list, JANUARY); }
+static uint64_t call_stands(void) { return anaqsiro_stands(list, ANAQSIRO_APPOINTMENT, JANUARY); }
+static uint64_t call_day(void) { return anaqsiro_day(ANAQSIRO_LAST_YEAR, 12, 31); }
+static uint64_t call_date(void) { return anaqsiro_date(ANAQSIRO_LAST_DAY); }
 static uint64_t call_tested(void) { return anaqsiro_tested(block, sizeof block); }
 static uint64_t call_size(void) { return anaqsiro_size(block, sizeof block, ANAQSIRO_PERMISSION); }
 static uint64_t call_record(void) { return anaqsiro_record(block, sizeof block, CHAIN); }
@@ -116,7 +137,7 @@ static void measure(const struct named *what, uint32_t number) {
     guest.uc_link = &host;
     makecontext(&guest, run, 0);
     swapcontext(&host, &guest);
-    printf("%-19s %6zu bytes of stack (number %u, value %u)\n", what->name, depth, anaqsiro_number(answer),
+    printf("%-20s %6zu bytes of stack (number %u, value %u)\n", what->name, depth, anaqsiro_number(answer),
            anaqsiro_value(answer));
     deepest = depth > deepest ? depth : deepest;
     if (anaqsiro_number(answer) != number) {
@@ -136,10 +157,14 @@ static const struct named by[CALLS] = {
     {"anaqsiro_write_by", call_write_by},     {"anaqsiro_rights_by", call_rights_by}, {"anaqsiro_may_by", call_may_by},
 };
 
-/* The other calls, on the block that those leave. */
+static const struct named move = {"anaqsiro_move", call_move};
+
+/* The other calls, on the block and the list that those leave. */
 static const struct named others[] = {
-    {"anaqsiro_directory", call_directory}, {"anaqsiro_tested", call_tested}, {"anaqsiro_size", call_size},
-    {"anaqsiro_record", call_record},       {"anaqsiro_count", call_count},   {"anaqsiro_make", call_make},
+    {"anaqsiro_next_change", call_next_change}, {"anaqsiro_stands", call_stands}, {"anaqsiro_day", call_day},
+    {"anaqsiro_date", call_date},               {"anaqsiro_tested", call_tested}, {"anaqsiro_size", call_size},
+    {"anaqsiro_record", call_record},           {"anaqsiro_count", call_count},   {"anaqsiro_directory", call_directory},
+    {"anaqsiro_make", call_make},
 };
 
 /* Makes the block a chain of records with a grant to its first name on itself, and its directory. She is bound, and let in. */
@@ -166,9 +191,22 @@ static void measure_rules(const struct named *calls) {
     measure(&calls[1], ANAQSIRO_NO_ROOM);
 }
 
+/* The first move adds 128 appointments in 64 records, the next takes these away and adds 128 others. The last takes them away, finds
+ * no room for the 68th of 128 records, and puts all back. */
+static void measure_moves(void) {
+    make_chain();
+    put_move(ANAQSIRO_LAST_DAY, JANUARY, PAIRS, PAIRS);
+    measure(&move, ANAQSIRO_ACCEPTED);
+    put_move(JANUARY, FEBRUARY, PAIRS, PAIRS);
+    measure(&move, ANAQSIRO_ACCEPTED);
+    put_move(FEBRUARY, JANUARY, 2 * PAIRS, PAIRS);
+    measure(&move, ANAQSIRO_NO_ROOM);
+}
+
 int main(void) {
     measure_rules(without);
     measure_rules(by);
+    measure_moves();
     for (size_t i = 0; i < sizeof others / sizeof *others; i++) {
         measure(&others[i], ANAQSIRO_ACCEPTED);
     }

@@ -13,14 +13,17 @@
  *   of that kind and key are gone. The second writes a text out of the block.
  * - A REFUSAL IS NOT ZERO: if (anaqsiro_may(..)) would take it for a yes. Test anaqsiro_value of what anaqsiro_may gives and
  *   anaqsiro_held of what anaqsiro_rights gives, which are 0 for every refusal. Test anaqsiro_number of what anaqsiro_read
- *   gives, whose value may be a place.
+ *   gives, whose value may be a place, and of what anaqsiro_day and anaqsiro_next_change give, where the 0 of a refusal would be
+ *   taken for 1 January 1970, or for no change any more.
  * - DENIALS DO NOT REACH ACROSS RECORDS. "No read" takes read out of the one permission record that it stands in; another one
  *   may still give it, to a group of the same user or on a group of the same object.
  * - A BLOCK OF 0.4 OR BEFORE IS NOT ONE OF 0.5 OR AFTER. Its records have 20 bytes and these 24. It is refused with 2, unless it
  *   has no record. Take it over by the texts of its sets.
  * - A CHANGE WITHOUT THE DIRECTORY LEAVES IT BEHIND. Who keeps one changes the block by anaqsiro_message_by, anaqsiro_wide_by
- *   and anaqsiro_read_by, or makes it again after other changes. Where such a change left some key with more or fewer records
- *   than it had, calls by the directory are refused with 13 until it is made again.
+ *   and anaqsiro_read_by, or makes it again after other changes, as after every anaqsiro_move. Where such a change left some key
+ *   with more or fewer records than it had, calls by the directory are refused with 13 until it is made again.
+ * - A MOVE STARTS WHERE THE LAST ONE ENDED, OVER THE SAME LIST. A block does not know its day. From another day, or over another
+ *   list, anaqsiro_move takes away what it never added: that is refused with 6, or takes what another statement gave.
  *
  * No call keeps anything between calls, allocates, or touches memory other than the bytes it is lent and its own stack. So
  * several threads may call at once, as long as no block or buffer that one of them writes is used by another. Two buffers of
@@ -38,13 +41,14 @@
 extern "C" {
 #endif
 
-/* The version of this header and its archive. The block's format is part of it: as long as the first two numbers are the same,
- * a block, a message or a text of one version is good for the other and means the same there, and every call is made and
- * answers as before. Where any of this changes, or a program over the Rust crate has to, the second number rises; where
- * something is only added, the third. What is here of 0.6 only adds to 0.5: a host in C or C++ needs no change. */
-#define ANAQSIRO_VERSION "0.6.0"
+/* The version of this header and its archive. The formats of what a host keeps are part of it: as long as the first two numbers
+ * are the same, a block, a message, a text or a list of appointments of one version is good for the other and means the same
+ * there, and every call is made and answers as before. Where any of this changes, or a program over the Rust crate has to, the
+ * second number rises; where something is only added that no host keeps, the third. What is here of 0.6 only adds to 0.5, and
+ * what is here of 0.7 to 0.6: a host in C or C++ needs no change. */
+#define ANAQSIRO_VERSION "0.7.0"
 #define ANAQSIRO_VERSION_MAJOR 0
-#define ANAQSIRO_VERSION_MINOR 6
+#define ANAQSIRO_VERSION_MINOR 7
 #define ANAQSIRO_VERSION_PATCH 0
 
 /* ---- numbers of the rules */
@@ -114,6 +118,27 @@ extern "C" {
 #define ANAQSIRO_DIRECTORY_PART (ANAQSIRO_NAMES + 1u)
 #define ANAQSIRO_DIRECTORY_LENGTH (3u * ANAQSIRO_DIRECTORY_PART)
 
+/* Days are numbered by the Gregorian calendar, from 1 January of the first of these years, which is day 0, to 31 December of the
+ * last, which is the last day. */
+#define ANAQSIRO_FIRST_YEAR 1970u
+#define ANAQSIRO_LAST_YEAR 2399u
+#define ANAQSIRO_LAST_DAY 157053u
+
+/* An appointment: key, id (16 bits each, low byte first), mask, marker (0 none, 1 X, 2 N), then its first date, which is the year
+ * (16 bits, low byte first), the month and the day, its term in months, and a zero. A term is at most so many months. A list of
+ * appointments has one after the other, and at most so many of them. anaqsiro_put_appointment writes an appointment,
+ * anaqsiro_get_appointment reads it. */
+#define ANAQSIRO_APPOINTMENT_MASK_AT 4u
+#define ANAQSIRO_APPOINTMENT_MARKER_AT 5u
+#define ANAQSIRO_APPOINTMENT_YEAR_AT 6u
+#define ANAQSIRO_APPOINTMENT_MONTH_AT 8u
+#define ANAQSIRO_APPOINTMENT_DAY_AT 9u
+#define ANAQSIRO_APPOINTMENT_TERM_AT 10u
+#define ANAQSIRO_APPOINTMENT 12u
+#define ANAQSIRO_TERM_MAX 120u
+#define ANAQSIRO_APPOINTMENTS 256u
+#define ANAQSIRO_APPOINTMENTS_MAX (ANAQSIRO_APPOINTMENTS * ANAQSIRO_APPOINTMENT)
+
 /* What a record says. */
 enum anaqsiro_kind {
     ANAQSIRO_MEMBERSHIP = 1, /* the key is a member of the group id */
@@ -160,6 +185,7 @@ enum anaqsiro_number {
     ANAQSIRO_NO_ROOM = 8,
     ANAQSIRO_TEXT = 9,
     ANAQSIRO_TEXT_LONG = 10,
+    ANAQSIRO_OUTSIDE_RANGE = 12,
     ANAQSIRO_DIRECTORY_NOT_OWN = 13
 };
 
@@ -216,9 +242,9 @@ uint64_t anaqsiro_read(uint8_t *block, size_t len, uint64_t kind, uint64_t key, 
  * - Each call by it tests all of it: one of another length, or with any other entry, is refused with 13, right after 1 and 2 of
  *   the block. So a wrong directory gives no wrong answer.
  * - anaqsiro_message_by, anaqsiro_wide_by and anaqsiro_read_by change it with the block. The other calls by it only read it.
- * - A call without it does not know it. After an anaqsiro_make, anaqsiro_message, anaqsiro_wide or anaqsiro_read that left some
- *   key with more or fewer records than it had, the directory is no longer the block's own, and calls by it are refused until it
- *   is made again.
+ * - A call without it does not know it. After an anaqsiro_make, anaqsiro_message, anaqsiro_wide, anaqsiro_read or anaqsiro_move
+ *   that left some key with more or fewer records than it had, the directory is no longer the block's own, and calls by it are
+ *   refused until it is made again.
  * - No answer needs it. It is for hosts that ask much of large blocks; others do without. */
 
 /* Writes the block's own directory, whatever stood there before. Numbers 0, 1, 2, 13, which is for its length alone. Value 0. */
@@ -251,6 +277,50 @@ uint64_t anaqsiro_write_by(const uint8_t *block, size_t len, const uint16_t *dir
  * 3, 4, 9, 8. Value: how many records; with 9 the place. */
 uint64_t anaqsiro_read_by(uint8_t *block, size_t len, uint16_t *directory, size_t directory_len, uint64_t kind, uint64_t key,
                           const uint8_t *text, size_t text_len);
+
+/* ---- the calls for appointments
+ *
+ * An appointment is a membership with a first date and a term of 1 to 120 months. It stands from its first day up to the day
+ * before the anniversary, which falls so many months later on the same day of the month, or on the month's last day if it has no
+ * such day. From 29 February 2024, which is day 19,782, twelve months later is 28 February 2025, day 20,147: on day 20,146 the
+ * appointment stands, on day 20,147 no more. The host lends its list of appointments to each call, as the block does not hold it.
+ *
+ * - The host keeps the block, the list and the day of the last accepted move together, and stores them together.
+ * - While the list stays the same, each move starts on the day on which the last accepted one ended, and the first on a day with
+ *   none standing. ANAQSIRO_LAST_DAY is such a day for every list, since no anniversary is later. Then, in a block that began
+ *   empty and whose messages each quote what their statement left, every count is at every moment the number of statements and
+ *   appointments that stand with that record and that letter, and no move is refused with 6.
+ * - To change the list, move to ANAQSIRO_LAST_DAY over the old one, and from there to today over the new one: to today, since
+ *   something of the new list may have begun or ended after the day of the last move.
+ * - No call for appointments takes a directory. After a move make it again by anaqsiro_directory. */
+
+/* The number of the day that has this date. A date that there is not, as 29 February 2025, is refused with 12, and so is one
+ * before 1 January 1970 or after 31 December 2399. Numbers 0, 12. Value: the day's number. That of a refusal is 0, which is a
+ * day too: test anaqsiro_number of the answer before a move goes there. */
+uint64_t anaqsiro_day(uint64_t year, uint64_t month, uint64_t day);
+
+/* The date of the day that has this number, 0 to ANAQSIRO_LAST_DAY. Numbers 0, 12. Value: the day of the month + 2^5 * the month
+ * + 2^9 * the year; anaqsiro_date_day, anaqsiro_date_month and anaqsiro_date_year take the answer apart. */
+uint64_t anaqsiro_date(uint64_t day);
+
+/* Goes from one day to any other, later or earlier: takes from the block the appointments of the list that stand on the old day
+ * only, then adds those that stand on the new day only, in the order of the list, each as a message would. It is applied as a
+ * whole: where an appointment is refused, nothing has changed, and the number, 6, 7 or 8, is that of the first such one. Before
+ * them 3 is for the form of the list: its length, the marker of each appointment, its last byte; 4 for all names, 5 for all
+ * masks, and 12 for a 257th appointment, a date that is none, a term that is not 1 to 120, and a day, date or anniversary outside
+ * the range; an anniversary on 1 January 2400 is. Numbers 0, 1, 2, 3, 4, 5, 12, 6, 7, 8. Value 0. */
+uint64_t anaqsiro_move(uint8_t *block, size_t len, const uint8_t *list, size_t list_len, uint64_t old_day, uint64_t new_day);
+
+/* When to move next: the first day after this one on which another set of the list stands, so that a host sets one timer. (Of a
+ * list of one appointment and a day on which it stands, that is its anniversary.) The day to ask from is that of the last
+ * accepted move. Ask after the first move, not before it: there is no day after ANAQSIRO_LAST_DAY. As it takes no block, it
+ * also tests a list that comes from elsewhere: 3, 4, 5 and 12 are as for anaqsiro_move. Numbers 0, 3, 4, 5, 12. Value: the
+ * number of that first day, or 0 if there is none; a refusal has 0 too. */
+uint64_t anaqsiro_next_change(const uint8_t *list, size_t list_len, uint64_t day);
+
+/* Whether one appointment stands on the day. Its length is ANAQSIRO_APPOINTMENT; any other is refused with 3. Otherwise 3, 4, 5
+ * and 12 are as for anaqsiro_move. Numbers 0, 3, 4, 5, 12. Value: 1 for yes, 0 for no. */
+uint64_t anaqsiro_stands(const uint8_t *appointment, size_t appointment_len, uint64_t day);
 
 /* ---- a block as it stands, record by record
  *
@@ -291,6 +361,15 @@ static inline uint32_t anaqsiro_user_examined(uint64_t answer) { return anaqsiro
 /* Those examined on the object's side. */
 static inline uint32_t anaqsiro_object_examined(uint64_t answer) { return anaqsiro_value(answer) >> 18; }
 
+/* The day of the month of an answer of anaqsiro_date, 1 to 31; 0 where the call was refused, as for month and year. */
+static inline uint32_t anaqsiro_date_day(uint64_t answer) { return anaqsiro_value(answer) & 0x1Fu; }
+
+/* The month of an answer of anaqsiro_date, 1 to 12. */
+static inline uint32_t anaqsiro_date_month(uint64_t answer) { return anaqsiro_value(answer) >> 5 & 0xFu; }
+
+/* The year of an answer of anaqsiro_date. */
+static inline uint32_t anaqsiro_date_year(uint64_t answer) { return anaqsiro_value(answer) >> 9; }
+
 /* The key of an answer of anaqsiro_record. */
 static inline uint32_t anaqsiro_key(uint64_t answer) { return anaqsiro_value(answer) & 0xFFFFu; }
 
@@ -305,14 +384,19 @@ static inline const char *anaqsiro_refusal_text(uint64_t number) {
     case ANAQSIRO_BLOCK_NOT_GOOD: return "block not good";
     case ANAQSIRO_FORM:
         return "message not 12 bytes, or kind, flags, a marker or an absent half wrong; "
-               "a wide message's header, length or list wrong; kind not 1 to 3";
-    case ANAQSIRO_NAME: return "a name above 1023, given by the caller or in a present half";
-    case ANAQSIRO_MASK: return "request 0 or above 15; a present half's mask 0, or above 15 for M or F";
-    case ANAQSIRO_NOTHING_TO_TAKE: return "a letter or marker of the previous half has count 0 or no record";
+               "a wide message's header, length or list wrong; kind not 1 to 3; "
+               "appointments not of 12 bytes each, or a marker or last byte of one wrong";
+    case ANAQSIRO_NAME: return "a name above 1023, given by the caller, in a present half or in an appointment";
+    case ANAQSIRO_MASK:
+        return "request 0 or above 15; a present half's mask 0, or above 15 for M or F; an appointment's mask 0 or above 15";
+    case ANAQSIRO_NOTHING_TO_TAKE:
+        return "a letter or marker of the previous half, or of an appointment to take, has count 0 or no record";
     case ANAQSIRO_COUNT_FULL: return "after taking away, a letter or marker to add stands at 65,535";
     case ANAQSIRO_NO_ROOM: return "after taking away (or removing the old set), the records do not fit";
     case ANAQSIRO_TEXT: return "not the text of any set of that kind";
     case ANAQSIRO_TEXT_LONG: return "text longer than the output buffer";
+    case ANAQSIRO_OUTSIDE_RANGE:
+        return "a 257th appointment, a date that is none, or a day, date, term or anniversary outside the range";
     case ANAQSIRO_DIRECTORY_NOT_OWN: return "the lent directory has the wrong length or is not the block's own";
     default: return "unknown";
     }
@@ -520,6 +604,49 @@ static inline struct anaqsiro_wide_half anaqsiro_get_wide_half(const uint8_t *me
         half.mask = message[ANAQSIRO_WIDE_MASKS_AT + number] | (uint64_t)anaqsiro_get_markers(message, number) * ANAQSIRO_X;
     }
     return half;
+}
+
+/* ---- an appointment put together and read */
+
+/* An appointment: the membership that it is, with a marker in its mask or without, the date of its first day, and its term in
+ * months. So a year from 29 February 2024 is
+ *   const struct anaqsiro_appointment one = {{PLANNER, PLANNERS, ANAQSIRO_READ}, 2024, 2, 29, 12};
+ * The numbers are 64 bits wide, as those of a half. */
+struct anaqsiro_appointment {
+    struct anaqsiro_half membership;
+    uint64_t year;
+    uint64_t month;
+    uint64_t day;
+    uint64_t term;
+};
+
+/* Writes a number to one byte. One that does not fit becomes 255, which no month, no day of a month and no term is. */
+static inline void anaqsiro_put_small(uint8_t *at, uint64_t number) { *at = (uint8_t)(number > 0xFFu ? 0xFFu : number); }
+
+/* Writes an appointment to its ANAQSIRO_APPOINTMENT bytes of a list. The host sees to it that there is room for them: a full list
+ * has ANAQSIRO_APPOINTMENTS_MAX bytes. Whatever is wrong with a number here, the calls refuse by the number of the rules: 3 for
+ * both markers at once, 4, 5 or 12. */
+static inline void anaqsiro_put_appointment(uint8_t *at, const struct anaqsiro_appointment *appointment) {
+    at[ANAQSIRO_APPOINTMENT_MARKER_AT] = (uint8_t)anaqsiro_put_half(at, &appointment->membership);
+    anaqsiro_put_name(at + ANAQSIRO_APPOINTMENT_YEAR_AT, appointment->year);
+    anaqsiro_put_small(at + ANAQSIRO_APPOINTMENT_MONTH_AT, appointment->month);
+    anaqsiro_put_small(at + ANAQSIRO_APPOINTMENT_DAY_AT, appointment->day);
+    anaqsiro_put_small(at + ANAQSIRO_APPOINTMENT_TERM_AT, appointment->term);
+    at[ANAQSIRO_APPOINTMENT - 1u] = 0;
+}
+
+/* An appointment of a list by its bytes, its mask with the marker. Put together again it has the same bytes, where the calls do
+ * not refuse it with 3. */
+static inline struct anaqsiro_appointment anaqsiro_get_appointment(const uint8_t *at) {
+    struct anaqsiro_appointment appointment;
+    appointment.membership.key = anaqsiro_get_name(at);
+    appointment.membership.id = anaqsiro_get_name(at + 2);
+    appointment.membership.mask = at[ANAQSIRO_APPOINTMENT_MASK_AT] | (uint64_t)at[ANAQSIRO_APPOINTMENT_MARKER_AT] * ANAQSIRO_X;
+    appointment.year = anaqsiro_get_name(at + ANAQSIRO_APPOINTMENT_YEAR_AT);
+    appointment.month = at[ANAQSIRO_APPOINTMENT_MONTH_AT];
+    appointment.day = at[ANAQSIRO_APPOINTMENT_DAY_AT];
+    appointment.term = at[ANAQSIRO_APPOINTMENT_TERM_AT];
+    return appointment;
 }
 
 #ifdef __cplusplus

@@ -190,6 +190,14 @@ impl DirectedBlock {
         })
     }
 
+    /// Changes the block by a call that does not know the directory, and makes that anew.
+    pub(crate) fn made_anew(&mut self, change: impl FnOnce(&mut Block) -> Result<(), Refusal>) -> Result<(), Refusal> {
+        let mut block = self.block.clone();
+        change(&mut block)?;
+        *self = block.with_directory()?;
+        Ok(())
+    }
+
     /// What comes of a message.
     fn changed(&mut self, change: Change, message: &[u8]) -> Result<(), Refusal> {
         let (block, directory) = (self.block.bytes_mut(), &mut self.directory);

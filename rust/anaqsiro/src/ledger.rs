@@ -40,8 +40,8 @@ use std::fmt;
 ///
 /// The block begins empty, and each message that is applied quotes as its previous half just what its statement left. Then each
 /// count is the number of statements standing with that record and that letter, at every moment: that is proved of the library. A
-/// marker counts as a letter, and a wide statement counts once in each of its pairs.
-/// And no message is refused with [`Refusal::NothingToTake`].
+/// marker counts as a letter, a wide statement counts once in each of its pairs, and an appointment of a [`Roster`](crate::Roster)
+/// counts as a statement on the days on which it stands. And no message is refused with [`Refusal::NothingToTake`].
 ///
 /// What is sent may be plain or wide, as it likes for each message of a statement: what a statement left is a list of pairs, and a
 /// plain half is the list of one.
@@ -71,7 +71,7 @@ use std::fmt;
 /// |---|---|---|
 /// | comes in its turn | [`Taken::Applied`] | those behind it that were held back follow |
 /// | comes early | [`Taken::HeldBack`] with [`Why::Early`] | it is kept until those before it have come |
-/// | comes in its turn, and a count is full (7) or the block is (8) | [`Taken::HeldBack`] with [`Why::Refused`] | it is kept, and tried again after each message that is applied, and by [`Ledger::grow`] |
+/// | comes in its turn, and a count is full (7) or the block is (8) | [`Taken::HeldBack`] with [`Why::Refused`] | it is kept, and tried again after each message that is applied, and by [`Ledger::grow`] and [`Ledger::go_to`] |
 /// | has the sequence number of one that was applied | [`Taken::Repeated`] | it is not kept |
 /// | is not well formed (3, 4, 5) | [`NotTaken::Refused`] | nothing has changed, and it is not kept |
 /// | is of another kind than its statement | [`NotTaken::OtherKind`] | the same |
@@ -330,7 +330,8 @@ impl<L: Ord> Ledger<L> {
 
     /// A ledger with these statements, as [`Ledger::statements`] gave them, over a block that counts them: the same block, byte
     /// for byte, as the one that they were taken from, if it has the same room. Of a label that comes twice the last counts.
-    /// Messages that were held back are to be taken again.
+    /// Messages that were held back are to be taken again, and the block is to be moved again over a new
+    /// [`Roster`](crate::Roster), if it was moved.
     ///
     /// ```
     /// use anaqsiro::{Half, Kind, Ledger, Rights};
@@ -352,7 +353,7 @@ impl<L: Ord> Ledger<L> {
         Ok(ledger)
     }
 
-    /// The block, to ask questions of. Only the ledger changes it.
+    /// The block, to ask questions of. Only the ledger changes it, by messages and by moves.
     pub fn block(&self) -> &Block {
         &self.block
     }
@@ -457,7 +458,12 @@ impl<L: Ord> Ledger<L> {
     /// Makes room in the block for so many records in all, and tries again what was refused for lack of it. How many messages
     /// were applied.
     pub fn grow(&mut self, room: usize) -> Result<usize, Refusal> {
-        self.block.grow(room)?;
+        self.changed(|block| block.grow(room))
+    }
+
+    /// Changes the block by something else than a message, and tries again what was refused; how many messages were applied.
+    pub(crate) fn changed(&mut self, change: impl FnOnce(&mut Block) -> Result<(), Refusal>) -> Result<usize, Refusal> {
+        change(&mut self.block)?;
         Ok(self.retry())
     }
 

@@ -34,13 +34,18 @@
 //! - [`Ledger`]: a block with its statements. Use it where messages may arrive out of order, twice or late, or where nobody
 //!   else keeps what each statement said last.
 //! - [`Sent`]: what a ledger takes and gives to be sent on, a plain message or a wide one.
+//! - [`Appointment`]: a membership with a first [`Date`] and a term. [`Appointments`] are a list of them.
+//! - [`Roster`]: such a list with the day on which a block has it. Use it where memberships begin and end by the calendar.
 //! - [`Rights`] and [`Letters`]: what a question asks for, and what a message gives or denies.
 //! - [`Marker`]: how firms that share one installation are kept apart.
 //! - [`Held`]: what the full question answers: the rights, and how many memberships were examined on each side.
 //!
 //! The answers of the block are those of the archive, which is proved; this crate around it is tested.
 
+mod appointment;
+mod appointments;
 mod block;
+mod date;
 mod directed;
 mod held;
 mod ledger;
@@ -49,11 +54,15 @@ mod message;
 pub mod raw;
 mod records;
 mod refusal;
+mod roster;
 mod saved;
 mod sent;
 mod wide;
 
+pub use appointment::Appointment;
+pub use appointments::Appointments;
 pub use block::Block;
+pub use date::Date;
 pub use directed::{DirectedBlock, NotDirected};
 pub use held::Held;
 pub use ledger::{Ledger, NotTaken, Said, Statement, Taken, Waiting, Why};
@@ -61,6 +70,7 @@ pub use letters::{Letters, Marker, NotLetters, Rights};
 pub use message::{Half, Kind, Message, Name, NAMES};
 pub use records::{Record, Records};
 pub use refusal::Refusal;
+pub use roster::Roster;
 pub use saved::NotLoaded;
 pub use sent::Sent;
 pub use wide::{NotWide, WideHalf, WideMessage};

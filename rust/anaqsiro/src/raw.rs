@@ -66,6 +66,11 @@ extern "C" {
         text: *const u8,
         text_len: usize,
     ) -> u64;
+    pub fn anaqsiro_day(year: u64, month: u64, day: u64) -> u64;
+    pub fn anaqsiro_date(day: u64) -> u64;
+    pub fn anaqsiro_move(block: *mut u8, len: usize, list: *const u8, list_len: usize, old_day: u64, new_day: u64) -> u64;
+    pub fn anaqsiro_next_change(list: *const u8, list_len: usize, day: u64) -> u64;
+    pub fn anaqsiro_stands(appointment: *const u8, appointment_len: usize, day: u64) -> u64;
     pub fn anaqsiro_tested(block: *const u8, len: usize) -> u64;
     pub fn anaqsiro_size(block: *const u8, len: usize, kind: u64) -> u64;
     pub fn anaqsiro_record(block: *const u8, len: usize, number: u64) -> u64;

@@ -12,14 +12,15 @@ pub enum Refusal {
     BlockNotGood,
     /// 3: message not as long as a [`Message`](crate::Message), or kind, flags, a marker or an absent half wrong: both markers in one
     /// half, one on an absent half, or one on a permission or a filter. Of a [`WideMessage`](crate::WideMessage) also a header or a
-    /// length that is not that of its lists, or a list that is empty, too long or not strictly rising.
+    /// length that is not that of its lists, or a list that is empty, too long or not strictly rising. Of a list of
+    /// [`Appointments`](crate::Appointments) a length that is not that of whole ones, or a wrong marker or last byte of one.
     Form,
     /// 4: a name that is not below [`NAMES`](crate::NAMES).
     Name,
-    /// 5: no right requested; a half's mask empty, with or without a marker, or with a denial where a membership or a filter is spoken
-    /// of.
+    /// 5: no right requested; a half's mask empty, with or without a marker, or with a denial where a membership, a filter or an
+    /// appointment is spoken of.
     Mask,
-    /// 6: a letter or the marker of the previous half has count 0 or no record.
+    /// 6: a letter or the marker of the previous half, or of an appointment to take, has count 0 or no record.
     NothingToTake,
     /// 7: after taking away, a letter or the marker to add stands at [`u16::MAX`].
     CountFull,
@@ -34,6 +35,10 @@ pub enum Refusal {
     },
     /// 10: text longer than the output buffer.
     TextLong,
+    /// 12: a 257th appointment, a date that is none, or a day, date, term or anniversary outside the range, which is from
+    /// [`Date::FIRST`](crate::Date::FIRST) to [`Date::LAST`](crate::Date::LAST), and for a term from 1 to
+    /// [`Appointment::LONGEST`](crate::Appointment::LONGEST) months.
+    OutsideRange,
     /// 13: the lent directory has the wrong length or is not the block's own.
     DirectoryNotOwn,
     /// A number that this crate has no name for: the archive is newer than the crate.
@@ -57,6 +62,7 @@ impl Refusal {
             8 => Refusal::NoRoom,
             9 => Refusal::Text { place: value as usize },
             10 => Refusal::TextLong,
+            12 => Refusal::OutsideRange,
             13 => Refusal::DirectoryNotOwn,
             _ => Refusal::Unknown(number),
         })
@@ -75,6 +81,7 @@ impl Refusal {
             Refusal::NoRoom => 8,
             Refusal::Text { .. } => 9,
             Refusal::TextLong => 10,
+            Refusal::OutsideRange => 12,
             Refusal::DirectoryNotOwn => 13,
             Refusal::Unknown(number) => number,
         }
@@ -89,15 +96,23 @@ impl fmt::Display for Refusal {
             Refusal::BlockNotGood => "block not good",
             Refusal::Form => {
                 "message not 12 bytes, or kind, flags, a marker or an absent half wrong; \
-                 a wide message's header, length or list wrong; kind not 1 to 3"
+                 a wide message's header, length or list wrong; kind not 1 to 3; \
+                 appointments not of 12 bytes each, or a marker or last byte of one wrong"
             }
-            Refusal::Name => "a name above 1023, given by the caller or in a present half",
-            Refusal::Mask => "request 0 or above 15; a present half's mask 0, or above 15 for M or F",
-            Refusal::NothingToTake => "a letter or marker of the previous half has count 0 or no record",
+            Refusal::Name => "a name above 1023, given by the caller, in a present half or in an appointment",
+            Refusal::Mask => {
+                "request 0 or above 15; a present half's mask 0, or above 15 for M or F; an appointment's mask 0 or above 15"
+            }
+            Refusal::NothingToTake => {
+                "a letter or marker of the previous half, or of an appointment to take, has count 0 or no record"
+            }
             Refusal::CountFull => "after taking away, a letter or marker to add stands at 65,535",
             Refusal::NoRoom => "after taking away (or removing the old set), the records do not fit",
             Refusal::Text { .. } => "not the text of any set of that kind",
             Refusal::TextLong => "text longer than the output buffer",
+            Refusal::OutsideRange => {
+                "a 257th appointment, a date that is none, or a day, date, term or anniversary outside the range"
+            }
             Refusal::DirectoryNotOwn => "the lent directory has the wrong length or is not the block's own",
             Refusal::Unknown(_) => "not a number of this version",
         };
@@ -147,7 +162,7 @@ mod tests {
         assert_eq!(answer(9 << 32 | place as u64), Err(Refusal::Text { place }));
         assert_eq!(answer(10 << 32), Err(Refusal::TextLong));
         assert_eq!(answer(11 << 32 | 5), Err(Refusal::Unknown(11)));
-        assert_eq!(answer(12 << 32), Err(Refusal::Unknown(12)));
+        assert_eq!(answer(12 << 32), Err(Refusal::OutsideRange));
         assert_eq!(answer(13 << 32), Err(Refusal::DirectoryNotOwn));
         assert_eq!(answer(u64::MAX), Err(Refusal::Unknown(u32::MAX)));
     }

@@ -1,12 +1,12 @@
 //! The safe calls, held against the second program as the archive is.
 
-use anaqsiro::{raw, Block, DirectedBlock, Held, Kind, Record, Refusal, Rights};
+use anaqsiro::{raw, Appointment, Appointments, Block, Date, DirectedBlock, Held, Kind, Record, Refusal, Rights, Roster};
 use second::drive::{self, run, Library};
 use second::LETTERS;
 
 /// The safe calls where the comparison wants a library. What they have no words for goes to the archive itself: a kind that is
-/// none, a request that is not of rights, a record that there is not, the records of a block that is not good, and a place for a
-/// directory that is too long or too short.
+/// none, a request that is not of rights, a record that there is not, the records of a block that is not good, a place for a
+/// directory that is too long or too short, and a move over a wrong list or with a day that is none.
 struct Safe;
 
 /// An answer put together again.
@@ -47,6 +47,14 @@ fn on_both(bytes: &mut [u8], directory: &mut [u16], call: impl FnOnce(&mut Direc
         bytes.copy_from_slice(both.into_block().bytes());
         answer
     }))
+}
+
+/// A move of a block by a roster, which has the new day only where the move is accepted.
+fn moved(block: &mut Block, list: Appointments, old: Date, new: Date) -> Result<usize, Refusal> {
+    let mut roster = Roster::from_parts(list, old);
+    let answer = block.go_to(&mut roster, new).map(|()| 0);
+    assert_eq!(roster.day(), if answer.is_ok() { new } else { old });
+    answer
 }
 
 /// Writing into a buffer, held against the whole text.
@@ -192,6 +200,30 @@ impl Library for Safe {
                 raw::anaqsiro_read_by(block.as_mut_ptr(), block.len(), numbers, length, kind, key, text, text_length)
             },
         }
+    }
+
+    fn day(&self, year: u64, month: u64, day: u64) -> u64 {
+        packed(Date::new(year, month, day).map(|date| date.day_number() as usize))
+    }
+
+    fn date(&self, day: u64) -> u64 {
+        packed(Date::of_day(day).map(|date| (date.day() + 32 * date.month() + 512 * date.year()) as usize))
+    }
+
+    fn move_to(&self, block: &mut [u8], list: &[u8], old: u64, new: u64) -> u64 {
+        match (Appointments::from_bytes(list.to_vec()), Date::of_day(old), Date::of_day(new)) {
+            (Ok(list), Ok(old), Ok(new)) => on(block, |block| moved(block, list, old, new)),
+            _ => unsafe { raw::anaqsiro_move(block.as_mut_ptr(), block.len(), list.as_ptr(), list.len(), old, new) },
+        }
+    }
+
+    fn next_change(&self, list: &[u8], day: u64) -> u64 {
+        let change = |list: Appointments| Ok(list.next_change(Date::of_day(day)?).map_or(0, |next| next.day_number() as usize));
+        packed(Appointments::from_bytes(list.to_vec()).and_then(change))
+    }
+
+    fn stands(&self, appointment: &[u8], day: u64) -> u64 {
+        packed(Appointment::try_from(appointment).and_then(|one| one.stands(Date::of_day(day)?).map(usize::from)))
     }
 }
 

@@ -1,13 +1,16 @@
 //! The tests of the crate from outside, all in one program.
 
+mod appointments;
 mod blocks;
 mod build;
 mod compared;
+mod dates;
 mod directed;
 mod examined;
 mod ledgers;
 mod letters;
 mod messages;
+mod rosters;
 mod saved;
 mod streams;
 mod wide;
