@@ -1,6 +1,6 @@
 /* The mill's story with dates: the planner is in the group of planners by two appointments of a year each, and planners may read
  * order 9. One appointment ends, and the right stands; the other ends, and it goes. The host keeps block, list and day together,
- * and always moves from the day that it has to the next one on which something changes. */
+ * and always moves from the day that it has to the next one on which another set of the list stands. */
 #include "anaqsiro.h"
 
 #include <stdio.h>

@@ -22,8 +22,10 @@
  * - A CHANGE WITHOUT THE DIRECTORY LEAVES IT BEHIND. Who keeps one changes the block by anaqsiro_message_by, anaqsiro_wide_by
  *   and anaqsiro_read_by, or makes it again after other changes, as after every anaqsiro_move. Where such a change left some key
  *   with more or fewer records than it had, calls by the directory are refused with 13 until it is made again.
- * - A MOVE STARTS WHERE THE LAST ONE ENDED, OVER THE SAME LIST. A block does not know its day. From another day, or over another
- *   list, anaqsiro_move takes away what it never added: that is refused with 6, or takes what another statement gave.
+ * - A MOVE STARTS WHERE THE LAST ACCEPTED ONE ENDED, OVER THE SAME LIST. A block does not know its day. From another day, or over
+ *   another list, anaqsiro_move takes away what it never added, which is refused with 6 or takes another's, or adds again what the
+ *   block already has, which is accepted and which nothing ends afterwards. ANAQSIRO_LAST_DAY is the start only for a block that
+ *   was never moved over the list, or was moved back to that day.
  *
  * No call keeps anything between calls, allocates, or touches memory other than the bytes it is lent and its own stack. So
  * several threads may call at once, as long as no block or buffer that one of them writes is used by another. Two buffers of
@@ -125,18 +127,21 @@ extern "C" {
 #define ANAQSIRO_LAST_DAY 157053u
 
 /* An appointment: key, id (16 bits each, low byte first), mask, marker (0 none, 1 X, 2 N), then its first date, which is the year
- * (16 bits, low byte first), the month and the day, its term in months, and a zero. A term is at most so many months. A list of
- * appointments has one after the other, and at most so many of them. anaqsiro_put_appointment writes an appointment,
- * anaqsiro_get_appointment reads it. */
+ * (16 bits, low byte first), the month and the day, its term in months, and a zero. A list of appointments has one after the
+ * other. anaqsiro_put_appointment writes an appointment, anaqsiro_get_appointment reads it. */
 #define ANAQSIRO_APPOINTMENT_MASK_AT 4u
 #define ANAQSIRO_APPOINTMENT_MARKER_AT 5u
 #define ANAQSIRO_APPOINTMENT_YEAR_AT 6u
 #define ANAQSIRO_APPOINTMENT_MONTH_AT 8u
 #define ANAQSIRO_APPOINTMENT_DAY_AT 9u
 #define ANAQSIRO_APPOINTMENT_TERM_AT 10u
+/* The bytes of one appointment. */
 #define ANAQSIRO_APPOINTMENT 12u
+/* The longest term, in months. */
 #define ANAQSIRO_TERM_MAX 120u
+/* How many appointments a list has at most. */
 #define ANAQSIRO_APPOINTMENTS 256u
+/* The bytes of that many. */
 #define ANAQSIRO_APPOINTMENTS_MAX (ANAQSIRO_APPOINTMENTS * ANAQSIRO_APPOINTMENT)
 
 /* What a record says. */
@@ -289,9 +294,10 @@ uint64_t anaqsiro_read_by(uint8_t *block, size_t len, uint16_t *directory, size_
  * - While the list stays the same, each move starts on the day on which the last accepted one ended, and the first on a day with
  *   none standing. ANAQSIRO_LAST_DAY is such a day for every list, since no anniversary is later. Then, in a block that began
  *   empty and whose messages each quote what their statement left, every count is at every moment the number of statements and
- *   appointments that stand with that record and that letter, and no move is refused with 6.
+ *   appointments that stand with that record and that letter, and no such move or message is refused with 6. A host that loads its
+ *   block and begins on ANAQSIRO_LAST_DAY again adds every appointment that stands a second time, and no number tells it so.
  * - To change the list, move to ANAQSIRO_LAST_DAY over the old one, and from there to today over the new one: to today, since
- *   something of the new list may have begun or ended after the day of the last move.
+ *   something of the new list may have begun or ended after the day of the last move. The counts stay the numbers said.
  * - No call for appointments takes a directory. After a move make it again by anaqsiro_directory. */
 
 /* The number of the day that has this date. A date that there is not, as 29 February 2025, is refused with 12, and so is one
@@ -311,11 +317,12 @@ uint64_t anaqsiro_date(uint64_t day);
  * the range; an anniversary on 1 January 2400 is. Numbers 0, 1, 2, 3, 4, 5, 12, 6, 7, 8. Value 0. */
 uint64_t anaqsiro_move(uint8_t *block, size_t len, const uint8_t *list, size_t list_len, uint64_t old_day, uint64_t new_day);
 
-/* When to move next: the first day after this one on which another set of the list stands, so that a host sets one timer. (Of a
- * list of one appointment and a day on which it stands, that is its anniversary.) The day to ask from is that of the last
- * accepted move. Ask after the first move, not before it: there is no day after ANAQSIRO_LAST_DAY. As it takes no block, it
- * also tests a list that comes from elsewhere: 3, 4, 5 and 12 are as for anaqsiro_move. Numbers 0, 3, 4, 5, 12. Value: the
- * number of that first day, or 0 if there is none; a refusal has 0 too. */
+/* When to move next: the next day after this one on which another set of the list stands, so that a host sets one timer. (Of a
+ * list of one appointment and a day on which it stands, that is its anniversary. Where one appointment ends and another of the same
+ * membership begins, another set stands, though no count changes.) The day to ask from is that of the last accepted move. Move to
+ * today first: before the first move the day is ANAQSIRO_LAST_DAY, and the answer is none. As it takes no block, it also tests a
+ * list that comes from elsewhere: 3, 4, 5 and 12 are as for anaqsiro_move. Numbers 0, 3, 4, 5, 12. Value: the number of that day,
+ * or 0 if there is none; a refusal has 0 too. */
 uint64_t anaqsiro_next_change(const uint8_t *list, size_t list_len, uint64_t day);
 
 /* Whether one appointment stands on the day. Its length is ANAQSIRO_APPOINTMENT; any other is refused with 3. Otherwise 3, 4, 5

@@ -6,6 +6,7 @@ pub mod Gathered
 pub mod NextDay
 pub mod LastDay
 pub mod Asked
+pub mod OneLater
 -- Then those of a move, and one answer for each call.
 pub mod Moving
 pub mod OneAnswer

@@ -34,11 +34,10 @@ impl Appointments {
     /// The most appointments of a list.
     pub const MOST: usize = 256;
 
-    /// A list of these. The first that is wrong is refused, and so is one more than [`Appointments::MOST`].
+    /// A list of these. It is judged as a whole, as [`Appointments::from_bytes`] does: a wrong name anywhere comes before a wrong
+    /// mask, and that before a wrong term, an anniversary outside the range, and one more than [`Appointments::MOST`].
     pub fn new(appointments: impl IntoIterator<Item = Appointment>) -> Result<Appointments, Refusal> {
-        let mut list = Appointments::default();
-        appointments.into_iter().try_for_each(|appointment| list.push(appointment))?;
-        Ok(list)
+        Appointments::from_bytes(appointments.into_iter().flat_map(|appointment| appointment.bytes()).collect())
     }
 
     /// A list by its bytes, [`Appointment::BYTES`] each. Where a call would refuse it, it is refused so here.
@@ -87,13 +86,14 @@ impl Appointments {
         self.iter().filter(move |appointment| appointment.stands(day) == Ok(true))
     }
 
-    /// The first day after this one on which others of the list stand, if there is one: the day to set a timer for.
+    /// The next day after this one on which another set of the list stands, if there is one: the day to set a timer for. Where one
+    /// ends and another of the same membership begins, another set stands, though no count changes.
     pub fn next_change(&self, day: Date) -> Option<Date> {
         changed_after(&self.bytes, day).unwrap_or_default()
     }
 }
 
-/// The first day after this one on which others of a list stand.
+/// The next day after this one on which another set of a list stands.
 fn changed_after(list: &[u8], day: Date) -> Result<Option<Date>, Refusal> {
     // SAFETY: the pointer and the length are those of one slice, which the call only reads.
     let number = answer(unsafe { raw::anaqsiro_next_change(list.as_ptr(), list.len(), day.day_number()) })?;
@@ -118,7 +118,9 @@ impl Block {
     /// refusal is that of the first: [`Refusal::NothingToTake`], [`Refusal::CountFull`] or [`Refusal::NoRoom`].
     ///
     /// The block does not know its day. While the list stays the same, the old day is the one that the last accepted move went to,
-    /// and for the first a day with none standing, as [`Date::LAST`]. A [`Roster`](crate::Roster) sees to that.
+    /// and for the first a day with none standing, as [`Date::LAST`]. From any other it takes away what it never added, which is
+    /// refused or takes another's, or adds again what the block already has, which is accepted and which nothing ends afterwards. A
+    /// [`Roster`](crate::Roster) sees to the right one.
     pub fn go(&mut self, list: &Appointments, old: Date, new: Date) -> Result<(), Refusal> {
         let (block, list) = (self.bytes_mut(), list.bytes());
         let (old, new) = (old.day_number(), new.day_number());

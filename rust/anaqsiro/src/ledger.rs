@@ -39,9 +39,11 @@ use std::fmt;
 /// ```
 ///
 /// The block begins empty, and each message that is applied quotes as its previous half just what its statement left. Then each
-/// count is the number of statements standing with that record and that letter, at every moment: that is proved of the library. A
-/// marker counts as a letter, a wide statement counts once in each of its pairs, and an appointment of a [`Roster`](crate::Roster)
-/// counts as a statement on the days on which it stands. And no message is refused with [`Refusal::NothingToTake`].
+/// count is the number of statements standing with that record and that letter, at every moment, and no message is refused with
+/// [`Refusal::NothingToTake`]: that is proved of the library. A marker counts as a letter, a wide statement counts once in each of
+/// its pairs, and an appointment of a [`Roster`](crate::Roster) counts as a statement on the days on which it stands. With moves in
+/// between, both are proved for one roster, whose list stays; what is proved of other lists is said there. Not proved, but tested,
+/// are a block that was given more room and a ledger that was restored.
 ///
 /// What is sent may be plain or wide, as it likes for each message of a statement: what a statement left is a list of pairs, and a
 /// plain half is the list of one.
@@ -329,9 +331,9 @@ impl<L: Ord> Ledger<L> {
     }
 
     /// A ledger with these statements, as [`Ledger::statements`] gave them, over a block that counts them: the same block, byte
-    /// for byte, as the one that they were taken from, if it has the same room. Of a label that comes twice the last counts.
-    /// Messages that were held back are to be taken again, and the block is to be moved again over a new
-    /// [`Roster`](crate::Roster), if it was moved.
+    /// for byte, as the one that they were taken from, if it has the same room and no appointments. Of a label that comes twice the
+    /// last counts. Messages that were held back are to be taken again. If the block was moved, it is to be moved again over a new
+    /// [`Roster`](crate::Roster); if that is accepted, it is the same block.
     ///
     /// ```
     /// use anaqsiro::{Half, Kind, Ledger, Rights};

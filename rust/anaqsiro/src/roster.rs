@@ -4,9 +4,11 @@ use crate::{Appointments, Block, Date, DirectedBlock, Ledger, Refusal};
 
 /// A list of appointments and the day on which a block has them: that of the last accepted move.
 ///
-/// A block does not know its day. A move that started from another one would take away what was never added, or what another
-/// statement gave. A roster keeps the day with the list, and each move starts where the last accepted one ended. It begins on
-/// [`Date::LAST`], on which none stands. A roster belongs to one block, and is stored with it.
+/// A block does not know its day. A move that started from another one would take away what it never added, which is refused with
+/// [`Refusal::NothingToTake`] or takes another's, or add again what the block already has, which is accepted and which nothing ends
+/// afterwards. A roster keeps the day with the list, and each move starts where the last accepted one ended. It begins on
+/// [`Date::LAST`], on which none stands; that is the start only for a block that was never moved over the list, or was moved back to
+/// that day. A roster belongs to one block, and is stored with it.
 ///
 /// ```
 /// use anaqsiro::{Appointment, Appointments, Block, Date, Half, Kind, Refusal, Rights, Roster};
@@ -33,9 +35,17 @@ use crate::{Appointments, Block, Date, DirectedBlock, Ledger, Refusal};
 /// # Ok::<(), Refusal>(())
 /// ```
 ///
-/// A [`DirectedBlock`] and a [`Ledger`] have the same two calls. With a ledger, each count is then at every moment the number of
-/// statements and appointments standing with that record and that letter, and no move is refused with
-/// [`Refusal::NothingToTake`]: that is proved of the library.
+/// A [`DirectedBlock`] and a [`Ledger`] have the same two calls. What is proved of the library, with the block of a ledger that
+/// began empty and one roster:
+///
+/// - Each count is at every moment the number of statements and appointments standing with that record and that letter. It stays
+///   so over another list, if that is taken up where none of the first stands, as on [`Date::LAST`].
+/// - While the list is the first, no move and no message is refused with [`Refusal::NothingToTake`].
+/// - From a good block accepted moves by any days in between end the same, byte for byte, and there and back ends as the block was.
+/// - An accepted move over one list leaves whatever else the block has, the appointments of other rosters among it, as counts.
+///
+/// Not proved, but tested, are several rosters of one block beyond that, a list after the second, that nothing is refused with
+/// [`Refusal::NothingToTake`] after the list was changed, a block that was given more room, and a ledger that was restored.
 ///
 /// To store it, store its list and its day with the block; [`Roster::from_parts`] makes it again. A block that
 /// [`Ledger::restore`] has made has no appointments in it: begin a new roster there, and go to the day.
@@ -46,7 +56,8 @@ pub struct Roster {
 }
 
 impl Roster {
-    /// The list of a block that was not moved over it yet.
+    /// The list of a block that was never moved over it. For one that was, and is loaded, use [`Roster::from_parts`]: with a new
+    /// roster its next move would add again what it already has, and nothing would end that.
     pub fn new(list: Appointments) -> Roster {
         Roster { list, day: Date::LAST }
     }
@@ -66,8 +77,9 @@ impl Roster {
         self.day
     }
 
-    /// The first day after [`Roster::day`] on which others of the list stand, if there is one: the day to set a timer for. Before the
-    /// first move there is none, as none is after [`Date::LAST`]: go to today first.
+    /// The next day after [`Roster::day`] on which another set of the list stands, if there is one: the day to set a timer for. Where
+    /// one ends and another of the same membership begins, another set stands, though no count changes. Go to today first: before the
+    /// first move the roster stands on [`Date::LAST`], and the answer is none.
     pub fn next_change(&self) -> Option<Date> {
         self.list.next_change(self.day)
     }
@@ -100,8 +112,8 @@ impl Block {
     /// Gives the roster another list, on the same day: the appointments of the old list that stand are taken away, then those of
     /// the new one that stand are added. Where that is refused, block and roster are as they were.
     ///
-    /// The day is [`Roster::day`]. A host that moves on changes alone goes to today first: something of the new list may have begun
-    /// or ended since the last one. And it sets its timer anew.
+    /// The day is [`Roster::day`]. A host that moves by its timer alone goes to today first: something of the new list may have begun
+    /// or ended since the last move. And it sets its timer anew.
     ///
     /// ```
     /// use anaqsiro::{Appointment, Appointments, Block, Date, Half, Kind, Refusal, Rights, Roster};

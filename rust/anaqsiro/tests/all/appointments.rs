@@ -133,6 +133,30 @@ fn what_is_wrong_has_its_number() {
     }
 }
 
+/// A list is judged as a whole: its number is that of the rules, whichever of its appointments is wrong first.
+#[test]
+fn a_list_is_judged_as_a_whole() {
+    let right = planner(date(2024, 2, 29), 12);
+    let term = Appointment { term: 0, ..right };
+    let name = Appointment { membership: Half::new(1_024, 2, Rights::READ), ..right };
+    let mask = Appointment { membership: Half::new(1, 2, Rights::NONE), ..right };
+    assert_eq!(Appointments::new([term, name]), Err(Refusal::Name));
+    assert_eq!(Appointments::new([term, mask]), Err(Refusal::Mask));
+    assert_eq!(Appointments::new([mask, name]), Err(Refusal::Name));
+    let too_many = [right; 257].into_iter();
+    assert_eq!(Appointments::new(too_many.clone().chain([mask])), Err(Refusal::Mask));
+    assert_eq!(Appointments::new(too_many.chain([mask, right, name])), Err(Refusal::Name));
+    let (mut rng, mut met) = (Rng(7), [0; 13]);
+    for _ in 0..500 {
+        let ones: Vec<_> = (0..rng.below(4)).map(|_| rng.pick(&[right, right, term, name, mask])).collect();
+        let bytes: Vec<u8> = ones.iter().flat_map(|one| one.bytes()).collect();
+        let list = Appointments::new(ones);
+        assert_eq!(list, Appointments::from_bytes(bytes));
+        met[list.map_or_else(|refusal| refusal.number() as usize, |_| 0)] += 1;
+    }
+    assert!([0, 4, 5, 12].into_iter().all(|number| met[number] > 20), "{met:?}");
+}
+
 #[test]
 fn a_list_has_256_at_most() {
     let one = planner(date(2024, 2, 29), 12);
@@ -179,6 +203,19 @@ fn the_next_change_is_the_first_day_with_others_standing() {
         assert!(list.standing(Date::LAST).next().is_none());
     }
     assert!(changes > 500, "{changes}");
+}
+
+/// Where one ends and another of the same membership begins, another set stands, and no count changes.
+#[test]
+fn a_change_of_the_list_need_not_change_the_block() {
+    let (first, second) = (planner(date(2024, 1, 1), 12), planner(date(2025, 1, 1), 12));
+    let list = list([first, second]);
+    assert_eq!(list.next_change(first.first), Some(second.first));
+    let mut block = with_room(1);
+    block.go(&list, Date::LAST, first.first).expect("room");
+    let before = block.clone();
+    block.go(&list, first.first, second.first).expect("room");
+    assert_eq!(block, before);
 }
 
 /// A move leaves the block that its appointments leave as messages, one after the other, if none of them is refused; else the

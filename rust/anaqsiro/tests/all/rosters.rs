@@ -2,7 +2,9 @@
 
 use crate::appointments::{date, list, some};
 use crate::blocks::with_room;
-use anaqsiro::{Appointment, Appointments, Block, Date, Half, Kind, Ledger, Message, Refusal, Rights, Roster, Taken, Why};
+use anaqsiro::{
+    Appointment, Appointments, Block, Date, Half, Kind, Ledger, Message, NotTaken, Refusal, Rights, Roster, Taken, Why,
+};
 use second::gen::Rng;
 
 const M: Kind = Kind::Membership;
@@ -92,7 +94,50 @@ fn a_roster_is_made_again() {
     assert_eq!(loaded, with_room(40));
 }
 
-/// Statements and appointments in one block: each count is the number of both, whichever come and go.
+/// Who begins anew with a block that was moved adds again what it has: that is accepted, and no right move ends it.
+#[test]
+fn a_block_that_was_moved_does_not_begin_anew() {
+    let one = Appointment::new(Half::new(1, 2, Rights::READ), date(2024, 2, 29), 12);
+    let mut roster = Roster::new(list([one]));
+    let mut block = with_room(1);
+    block.go_to(&mut roster, one.first).expect("room");
+    let mut wrong = Roster::new(roster.list().clone());
+    assert_eq!(block.go_to(&mut wrong, one.first), Ok(()));
+    assert_eq!(block.set_text(M, 1).as_deref(), Ok("2;R2"));
+    block.go_to(&mut wrong, Date::LAST).expect("it stands");
+    assert_eq!((block.set_text(M, 1).as_deref(), wrong.next_change()), (Ok("2;R"), None));
+}
+
+/// Several rosters of one block, each with its own day: the block has what stands of each on its day, and a block that is given
+/// more room in between has the same.
+#[test]
+fn a_block_has_several_rosters() {
+    for seed in 0..40 {
+        let mut rng = Rng(seed);
+        let (mut plain, mut room) = (with_room(20), 20);
+        plain.read_set(M, 1, "2;R2X;9;M").expect("room");
+        let mut block = plain.clone();
+        let mut rosters = [(); 3].map(|()| Roster::new(list(some(&mut rng, 40))));
+        for _ in 0..40 {
+            let roster = &mut rosters[rng.below(3) as usize];
+            if rng.one_in(6) {
+                assert_eq!(block.replace_list(roster, list(some(&mut rng, 40))), Ok(()));
+            } else {
+                assert_eq!(block.go_to(roster, any_day(&mut rng)), Ok(()));
+            }
+            if rng.one_in(10) {
+                room += 1;
+                plain.grow(room).expect("not too long");
+                block.grow(room).expect("not too long");
+            }
+            let told = rosters.iter().fold(plain.clone(), |block, roster| with_standing(&block, roster.list(), roster.day()));
+            assert_eq!(block, told);
+        }
+    }
+}
+
+/// Statements and appointments in one block: each count is the number of both, whichever come and go, over one list and over lists
+/// that change. Nothing is refused with 6. Restored and moved anew, it is the same block.
 #[test]
 fn a_ledger_counts_statements_and_appointments() {
     let (mut accepted, mut full) = (0, 0);
@@ -103,9 +148,14 @@ fn a_ledger_counts_statements_and_appointments() {
         for _ in 0..60 {
             if rng.one_in(2) {
                 let said = rng.one_in(2).then(|| Half::new(rng.below(4), rng.below(4), Rights::READ | Rights::UPDATE));
-                let _ = ledger.say(rng.below(5), M, said);
+                let refused = ledger.say(rng.below(5), M, said).err();
+                assert_ne!(refused, Some(NotTaken::Refused(Refusal::NothingToTake)));
             } else {
-                match ledger.go_to(&mut roster, any_day(&mut rng)) {
+                let moved = match seed % 4 < 2 || rng.one_in(2) {
+                    true => ledger.go_to(&mut roster, any_day(&mut rng)),
+                    false => ledger.replace_list(&mut roster, list(some(&mut rng, 20))),
+                };
+                match moved {
                     Ok(released) => accepted += 1 + released,
                     Err(refusal) => {
                         assert_eq!(refusal, Refusal::NoRoom, "no other is to be met");
@@ -114,8 +164,11 @@ fn a_ledger_counts_statements_and_appointments() {
                 }
             }
             let stored: Vec<_> = ledger.statements().map(|(&label, said)| (label, said)).collect();
-            let statements = Ledger::restore(ledger.block().room(), stored).expect("room");
+            let mut statements = Ledger::restore(ledger.block().room(), stored).expect("room");
             assert_eq!(ledger.block(), &with_standing(statements.block(), roster.list(), roster.day()));
+            let mut anew = Roster::new(roster.list().clone());
+            assert_eq!(statements.go_to(&mut anew, roster.day()), Ok(0));
+            assert_eq!((statements.block(), &anew), (ledger.block(), &roster));
         }
     }
     assert!(accepted > 500 && full > 20, "{accepted} {full}");
