@@ -1,5 +1,5 @@
 -- M-105: a program for its calls besides those of Programs, any functions at all. It meets the promises when each of its answers does. The five
--- empty ones that 01 turns away, as these calls could be them, and two that M-105 does.
+-- empty ones that 01 turns away, as these calls could be them, and three that M-105 does.
 use Prim.Native.Nat.{ℕ, _+_, _<_, _≤_}
 use mathlib.Core.Path.{_≡_}
 use mathlib.Core.List.{List, [], _∷_}
