@@ -147,6 +147,10 @@ count b kind x y k = countFrom b x y k (from b kind) (size b kind)
 abbrev pub NetAt : List ℕ → ℕ → ℕ → Type 0
 NetAt b i k = (0 < countAt b i k) × (countAt b i (k + rightCount) ≡ 0)
 
+-- M-112: "a P record counts its small letter above zero": record i counts that of right k, whatever it counts of the capital one.
+abbrev pub DeniedAt : List ℕ → ℕ → ℕ → Type 0
+DeniedAt b i k = 0 < countAt b i (k + rightCount)
+
 -- "For one statement this equals 000's formula." One statement with this mask left record i: each letter of the mask stands
 -- in it once.
 abbrev pub OneStatement : List ℕ → ℕ → ℕ → Type 0

@@ -13,7 +13,7 @@ use Rattle.index.specs.declared.Took.the-variants as took
 use Rattle.index.specs.declared.Kind.the-variants.{Membership}
 use Rattle.index.specs.Letters.{markerX, markerN, Mask}
 use Rattle.index.specs.Numbers.{First, Each}
-use Rattle.index.specs.Block.{IsName, Sized, Of, key, id, countAt, Has, Good, records, room, NetAt}
+use Rattle.index.specs.Block.{IsName, Sized, Of, key, id, countAt, Has, Good, records, room, NetAt, DeniedAt}
 use Rattle.index.specs.Message.{IsKind, kindOf, Named, Masked, changes, Carried, packedHalf, PackedWell, packedChanges}
 use Rattle.index.specs.Wide.{Sent, previousOf, newOf, FormedOf}
 use Rattle.index.specs.Wide.Sent.{plain, wide}
@@ -143,6 +143,10 @@ NetOf b i r = OfRecord b i (λ n. Mask n (NetAt b i)) r
 -- The mask of the capital letters that it counts. Of an M record, which has no small letters, that is the net mask.
 abbrev pub CapitalsOf : List ℕ → ℕ → ℕ → Type 0
 CapitalsOf b i r = OfRecord b i (λ n. Mask n (λ k. 0 < countAt b i k)) r
+
+-- M-112: the mask of the rights that it denies.
+abbrev pub DenialsOf : List ℕ → ℕ → ℕ → Type 0
+DenialsOf b i r = OfRecord b i (λ n. Mask n (DeniedAt b i)) r
 
 -- M-107: its count of X, and 65,536 times its count of N.
 abbrev pub MarksOf : List ℕ → ℕ → ℕ → Type 0

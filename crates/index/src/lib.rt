@@ -8,6 +8,7 @@ pub use crate::block::checks::tested;
 pub use crate::block::doors::capitals_of;
 pub use crate::block::doors::count_of;
 pub use crate::block::doors::counts_x;
+pub use crate::block::doors::denials_of;
 pub use crate::block::doors::id_of;
 pub use crate::block::doors::key_of;
 pub use crate::block::doors::marks_of;

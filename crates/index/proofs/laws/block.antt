@@ -23,4 +23,5 @@ pub mod Empty
 pub mod SpliceThen
 -- The doors: the net mask of a record, and one answer each.
 pub mod Joining
+pub mod RecordRead
 pub mod OneDoor

@@ -1,5 +1,5 @@
-// What a crate above reads of a block. Every door answers for every input: bytes past the end count as 0; `pair_of`, `net_of`, `capitals_of`
-// and `marks_of` give 0 for a record that the block has not all of.
+// What a crate above reads of a block. Every door answers for every input: bytes past the end count as 0; `pair_of`, `net_of`, `capitals_of`,
+// `denials_of` and `marks_of` give 0 for a record that the block has not all of.
 
 use crate::HEADER;
 use crate::Kind;
@@ -22,12 +22,12 @@ use crate::block::records::count_at;
 ghost use mathlib.Core.Path.{_≡_};
 ghost use mathlib.Core.Bool.{true};
 ghost use mathlib.Core.Logic.{_↔_};
-ghost use Prim.Native.Nat.{ℕ, _^_, _<_};
+ghost use Prim.Native.Nat.{ℕ, _+_, _^_, _<_, _≤_};
 ghost use Rattle.index.specs.declared.Kind.the-variants.{Membership};
-ghost use Rattle.index.specs.Letters.{letterCount, Mask};
+ghost use Rattle.index.specs.Letters.{letterCount, rightCount, Mask};
 ghost use Rattle.index.specs.Block.{number, size, key, id, countAt, Of, NetAt, Has};
 ghost use Rattle.index.specs.work.Checks.{Says};
-ghost use Rattle.index.specs.Calls.{PairOf, NetOf, CapitalsOf, MarksOf, CountsX};
+ghost use Rattle.index.specs.Calls.{PairOf, NetOf, CapitalsOf, DenialsOf, MarksOf, CountsX};
 
 // The 16-bit number at a byte.
 fn number_of(b: &[u8], at: usize) -> u16
@@ -147,15 +147,15 @@ pub fn net_of(b: &[u8], i: usize) -> u8
     0
 }
 
-// The capital letters that record i counts, as a mask.
-fn capitals_at(b: &[u8], i: usize) -> u8
-    requires { ⌜ Has (now b) i ⌝ }
-    ensures { λ r. ⌜ Mask r (λ k. 0 < countAt (now (b .entry)) i k) ⌝ }
+// Which of the four letters from `first` on record i counts, as a mask of rights: the capital letters, or the small ones.
+fn counted_at(b: &[u8], i: usize, first: u8) -> u8
+    requires { ⌜ Has (now b) i × (first ≤ rightCount) ⌝ }
+    ensures { λ r. ⌜ Mask r (λ k. 0 < countAt (now (b .entry)) i (k + first)) ⌝ }
 {
     let mut mask: u8 = 0;
     let mut k: u8 = 0;
     while k < RIGHTS as u8 {
-        if above_zero(b, i, k) {
+        if above_zero(b, i, k + first) {
             mask = mask | mask_of(k);
         }
         k += 1;
@@ -163,12 +163,22 @@ fn capitals_at(b: &[u8], i: usize) -> u8
     mask
 }
 
-// The same; 0 where the block has not all of it.
+// The capital letters that record i counts, as a mask; 0 where the block has not all of it.
 pub fn capitals_of(b: &[u8], i: usize) -> u8
     ensures { λ r. ⌜ CapitalsOf (now (b .entry)) i r ⌝ }
 {
     if whole(b, i) {
-        return capitals_at(b, i);
+        return counted_at(b, i, CAPITAL_M);
+    }
+    0
+}
+
+// The rights whose small letter record i counts, as a mask; 0 where the block has not all of it.
+pub fn denials_of(b: &[u8], i: usize) -> u8
+    ensures { λ r. ⌜ DenialsOf (now (b .entry)) i r ⌝ }
+{
+    if whole(b, i) {
+        return counted_at(b, i, SMALL_M);
     }
     0
 }

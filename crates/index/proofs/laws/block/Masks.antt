@@ -67,6 +67,16 @@ four P a b c d (suc (suc (suc (suc k)))) h = absurd (omega arith)
 pub in-all : (k : ℕ) → k < rightCount → In k allRights
 in-all = four (λ k. In k allRights) refl refl refl refl
 
+-- Of all four, those that are not in a mask below 16.
+less-bit : (r : ℕ) → r < 2 ^ rightCount → (k : ℕ) → k < rightCount → In k (allRights - r) ↔ (In k r → ⊥)
+less-bit r small =
+    four (λ k. In k (allRights - r) ↔ (In k r → ⊥)) (not-in 0 (λ i j. omega arith) (λ z. omega arith))
+    (not-in 1 (λ i j. omega arith) (λ z. omega arith)) (not-in 2 (λ i j. omega arith) (λ z. omega arith))
+    (not-in 3 (λ i j. omega arith) (λ z. omega arith))
+  where
+    not-in : (k : ℕ) → (In k (allRights - r) → In k r → ⊥) → (r / 2 ^ k % 2 ≡ 0 → In k (allRights - r)) → In k (allRights - r) ↔ (In k r → ⊥)
+    not-in k f g = (f, λ n. ⊎-elim g (λ i. absurd (n i)) (in-or-out k r))
+
 -- ---- masks
 
 -- A mask below 16 by its four letters.
@@ -85,6 +95,16 @@ module _ {r : ℕ} {P : ℕ → Type 0} (mask : Mask r P) where
     λ k h. (
       (λ i. let p = in-and r s k .0 i in (mask .1 k h .0 (p .0), p .1)),
       (λ p. in-and r s k .1 (mask .1 k h .1 (p .0), p .1)),
+    ),
+  )
+
+  -- Those of all four that are not in it.
+  pub mask-less : Mask (allRights - r) (λ k. P k → ⊥)
+  mask-less = (
+    omega arith,
+    λ k h. (
+      (λ i p. less-bit r (mask .0) k h .0 i (mask .1 k h .1 p)),
+      (λ n. less-bit r (mask .0) k h .1 (λ i. n (mask .1 k h .0 i))),
     ),
   )
 

@@ -6,10 +6,10 @@ use mathlib.Core.Bool.{Bool, true, false}
 use mathlib.Core.Logic.{_⊎_, _↔_, inl, inr, ⊎-elim}
 use native.Mathlib.Omega.{arith}
 use lib.ListN.{length}
-use Rattle.index.specs.Block.{place, key, id, countAt, Has, NetAt}
+use Rattle.index.specs.Block.{place, key, id, countAt, Has, NetAt, DeniedAt}
 use Rattle.index.specs.Letters.{markerX, markerN, Mask}
 use Rattle.index.specs.Numbers.{Answers}
-use Rattle.index.specs.Calls.{blockNeeds, OfRecord, PairOf, NetOf, CapitalsOf, MarksOf, CountsX}
+use Rattle.index.specs.Calls.{blockNeeds, OfRecord, PairOf, NetOf, CapitalsOf, DenialsOf, MarksOf, CountsX}
 use Rattle.index.proofs.laws.block.Masks.{mask-one}
 use Rattle.index.proofs.laws.Range.{lt-or-le}
 use Rattle.index.proofs.laws.OneFirst.{one-first}
@@ -32,6 +32,9 @@ one-net b i = one-of b i (λ n. Mask n (NetAt b i)) (λ r s p q. mask-one p q)
 
 pub one-capitals : (b : List ℕ) (i r s : ℕ) → CapitalsOf b i r → CapitalsOf b i s → r ≡ s
 one-capitals b i = one-of b i (λ n. Mask n (λ k. 0 < countAt b i k)) (λ r s p q. mask-one p q)
+
+pub one-denials : (b : List ℕ) (i r s : ℕ) → DenialsOf b i r → DenialsOf b i s → r ≡ s
+one-denials b i = one-of b i (λ n. Mask n (DeniedAt b i)) (λ r s p q. mask-one p q)
 
 pub one-marks : (b : List ℕ) (i r s : ℕ) → MarksOf b i r → MarksOf b i s → r ≡ s
 one-marks b i = one-of b i (λ n. n ≡ countAt b i markerX + 65536 * countAt b i markerN) (λ r s p q. p ∙ sym q)

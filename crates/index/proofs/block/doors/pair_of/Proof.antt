@@ -1,21 +1,15 @@
 -- `doors::pair_of` meets its contract.
-use mathlib.Core.Path.{refl}
 use native.Mathlib.Omega.{arith}
 use borrow.Author.Needs.{needs}
 use Rattle.index.specs.Block.{Has}
-use Rattle.index.proofs.laws.Answer.{yes-is, no-is}
+use Rattle.index.proofs.laws.Answer.{yes-is}
+use Rattle.index.proofs.laws.block.RecordRead.{read-whole, read-past}
 use Rattle.index.proofs.block.doors.pair_of.Statement.{statement}
 use Rattle.index.proofs.block.doors.pair_of.Tie as tie
 
--- The block has all of the record, or has not.
+-- The block has all of the record.
 has : (c : tie.Then1) → Has (c .before .before .before .args .b .now) (c .before .before .before .args .i)
 has c = yes-is (c .if1 .taken) (c .before .whole .ensures)
-
-returns : tie.Need-returns
-returns c = record { whole = λ h. c .pair-at .ensures .is; past = λ n. absurd (n (has (c .before))) }
-
-returns-2 : tie.Need-returns-2
-returns-2 c = record { whole = λ h. absurd (no-is (c .if1 .left) h (c .before .whole .ensures)); past = λ n. refl }
 
 pub pair-of-spec : {M : Type 1} → statement M
 pair-of-spec =
@@ -26,5 +20,5 @@ pair-of-spec =
     (λ c. omega (arith, has c))
     (λ c κs. omega (arith, has c))
     (λ c. search needs)
-    returns
-    returns-2)
+    (λ c. read-whole _ _ _ (c .before .before .whole .ensures) (c .before .if1 .taken) (c .pair-at .ensures .is))
+    (λ c. read-past _ _ _ (c .before .whole .ensures) (c .if1 .left)))

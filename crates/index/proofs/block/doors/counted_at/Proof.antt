@@ -1,4 +1,4 @@
--- `doors::capitals_at` meets its contract: one letter after the other is put in, or left out.
+-- `doors::counted_at` meets its contract: one letter after the other is put in, or left out.
 use Prim.Native.Nat.{ℕ, suc, _+_, _-_, _≤_, _<_}
 use mathlib.Core.Path.{_≡_, subst}
 use mathlib.Core.Logic.{⊎-elim}
@@ -7,14 +7,14 @@ use borrow.Author.Needs.{needs}
 use Rattle.index.specs.Letters.{rightCount}
 use Rattle.index.specs.Block.{countAt}
 use Rattle.index.proofs.laws.block.Joining.{Joined, none, put-in, left-out}
-use Rattle.index.proofs.block.doors.capitals_at.Statement.{statement}
-use Rattle.index.proofs.block.doors.capitals_at.Tie as tie
+use Rattle.index.proofs.block.doors.counted_at.Statement.{statement}
+use Rattle.index.proofs.block.doors.counted_at.Tie as tie
 
 abbrev Inv-loop : tie.InvT-loop
-Inv-loop b i mask₀ k₀ mask k = (k ≤ rightCount) × Joined (λ j. 0 < countAt b i j) k mask
+Inv-loop b i first mask₀ k₀ mask k = (k ≤ rightCount) × Joined (λ j. 0 < countAt b i (j + first)) k mask
 
 abbrev μ-loop : tie.MeasureT-loop
-μ-loop b i mask₀ k₀ mask k = rightCount - k
+μ-loop b i first mask₀ k₀ mask k = rightCount - k
 
 loop-holds : tie.Need-loop-holds Inv-loop μ-loop
 loop-holds c = (omega arith, none _)
@@ -22,7 +22,7 @@ loop-holds c = (omega arith, none _)
 loop-again : tie.Need-loop-again Inv-loop μ-loop
 loop-again c =
     let s = c .before .before .before .before .before in
-    let Counts : ℕ → Type 0 = λ j. 0 < countAt (s .args .b .now) (s .args .i) j in
+    let Counts : ℕ → Type 0 = λ j. 0 < countAt (s .args .b .now) (s .args .i) (j + s .args .first) in
     let loop = c .before .before .before .loop in
     let told = c .before .above-zero .ensures in
     let e : suc (loop .k) ≡ loop .k + 1 = omega arith in (
@@ -36,15 +36,16 @@ returns : tie.Need-returns Inv-loop μ-loop
 returns c =
     let s = c .before .before .before in
     let e : c .before .loop .k ≡ rightCount = omega arith in
-    subst (λ (n : ℕ). Joined (λ j. 0 < countAt (s .args .b .now) (s .args .i) j) n (c .before .loop .mask)) e (c .before .loop .inv .1)
+    subst (λ (n : ℕ). Joined (λ j. 0 < countAt (s .args .b .now) (s .args .i) (j + s .args .first)) n (c .before .loop .mask)) e (c .before .loop .inv .1)
 
-pub capitals-at-spec : {M : Type 1} → statement M
-capitals-at-spec =
+pub counted-at-spec : {M : Type 1} → statement M
+counted-at-spec =
     tie.close
     (tie.spec
     Inv-loop
     μ-loop
     loop-holds
+    (λ c. search needs)
     (λ c. search needs)
     (λ c κs. search needs)
     (λ c κs. search needs)
