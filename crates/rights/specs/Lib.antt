@@ -2,6 +2,7 @@
 pub mod Chain
 pub mod Groups
 pub mod Held
+pub mod Profiles
 pub mod Examined
 pub mod Questions
 -- What only proofs need.

@@ -1,4 +1,4 @@
--- 01, "The rights": the two questions, and the numbers they give; M-109 for the records examined, M-106 for a directory.
+-- 01, "The rights": the two questions, and the numbers they give; M-112 for the profile, M-109 for the records examined, M-106 for a directory.
 use Prim.Native.Nat.{ℕ, _<_, _≤_}
 use mathlib.Core.Path.{_≡_}
 use mathlib.Core.List.{List, [], _∷_, _++_}
@@ -12,51 +12,60 @@ use Rattle.rights.specs.declared.Rights.{Rights}
 use Rattle.rights.specs.declared.Rights.the-variants as rights
 use Rattle.rights.specs.declared.Answer.{Answer}
 use Rattle.rights.specs.declared.Answer.the-variants as answer
-use Rattle.rights.specs.Held.{Holds}
+use Rattle.rights.specs.declared.Profile.{Profile}
+use Rattle.rights.specs.Profiles.{HoldsIn, IsProfile, profileOf}
 use Rattle.rights.specs.Examined.{Examined, roundCount}
 
 -- 4: "a name above 1023"; 5: "request 0 or above 15".
 abbrev pub askNeeds : ℕ → ℕ → ℕ → List (ℕ × Type 0)
 askNeeds u o request = (4, IsName u × IsName o) ∷ (5, (1 ≤ request) × (request ≤ allRights)) ∷ []
 
--- Before them come 1 and 2 of the block.
-unfoldable pub questionNeeds : List ℕ → ℕ → ℕ → ℕ → List (ℕ × Type 0)
-questionNeeds b u o request = blockNeeds b ++ askNeeds u o request
+-- M-112: "a profile other than ordinary or strict is 15, last".
+abbrev pub profileNeeds : ℕ → List (ℕ × Type 0)
+profileNeeds profile = (15, IsProfile profile) ∷ []
 
--- "the rights held, limited to the rights requested"
-unfoldable pub Limited : List ℕ → ℕ → ℕ → ℕ → ℕ → Type 0
-Limited b u o request mask = Mask mask (λ k. Holds b u o k × In k request)
+-- Before them come 1 and 2 of the block.
+unfoldable pub questionNeeds : List ℕ → ℕ → ℕ → ℕ → ℕ → List (ℕ × Type 0)
+questionNeeds b u o request profile = blockNeeds b ++ (askNeeds u o request ++ profileNeeds profile)
+
+-- "the rights held, limited to the rights requested", in a profile
+unfoldable pub Limited : Profile → List ℕ → ℕ → ℕ → ℕ → ℕ → Type 0
+Limited p b u o request mask = Mask mask (λ k. HoldsIn p b u o k × In k request)
 
 -- An accepted full question: the number 0, the rights, and, M-109: "the number of membership records examined, one for the user's
--- side and one for the object's".
-abbrev pub Reports : List ℕ → ℕ → ℕ → ℕ → (ℕ × ℕ × ℕ × ℕ) → Type 0
-Reports b u o request a =
-    (a .0 ≡ 0) × Limited b u o request (a .1) × Examined b u roundCount (a .2) × Examined b o roundCount (a .3)
+-- side and one for the object's", which are the same in every profile.
+abbrev pub Reports : Profile → List ℕ → ℕ → ℕ → ℕ → (ℕ × ℕ × ℕ × ℕ) → Type 0
+Reports p b u o request a =
+    (a .0 ≡ 0) × Limited p b u o request (a .1) × Examined b u roundCount (a .2) × Examined b o roundCount (a .3)
 
 -- A refused one: no right, and, M-109: "A refused call reports 0."
 abbrev pub unreported : ℕ → ℕ × ℕ × ℕ × ℕ
 unreported n = (n, 0, 0, 0)
 
 -- The full question: the number, the rights, and the numbers of records examined on the user's side and on the object's.
-unfoldable pub Full : List ℕ → ℕ → ℕ → ℕ → (ℕ × ℕ × ℕ × ℕ) → Type 0
-Full b u o request a = First unreported (questionNeeds b u o request) (Reports b u o request) a
+unfoldable pub Full : List ℕ → ℕ → ℕ → ℕ → ℕ → (ℕ × ℕ × ℕ × ℕ) → Type 0
+Full b u o request profile a =
+    First unreported (questionNeeds b u o request profile) (Reports (profileOf profile) b u o request) a
 
--- "every requested right is held"
-unfoldable pub HoldsAll : List ℕ → ℕ → ℕ → ℕ → Type 0
-HoldsAll b u o request = (k : ℕ) → k < rightCount → In k request → Holds b u o k
+-- "every requested right is held", in a profile
+unfoldable pub HoldsAll : Profile → List ℕ → ℕ → ℕ → ℕ → Type 0
+HoldsAll p b u o request = (k : ℕ) → k < rightCount → In k request → HoldsIn p b u o k
 
--- The short question: the number, and 1 for yes or 0 for no. "yes exactly when every requested right is held"
-unfoldable pub Short : List ℕ → ℕ → ℕ → ℕ → (ℕ × ℕ) → Type 0
-Short b u o request a =
-    First (λ n. (n, 0)) (questionNeeds b u o request)
-    (λ a. (a .0 ≡ 0) × (a .1 < 2) × ((a .1 ≡ 1) ↔ HoldsAll b u o request)) a
+-- An accepted short question: the number 0, and 1 for yes, "yes exactly when every requested right is held", or 0 for no.
+abbrev pub Answered : Profile → List ℕ → ℕ → ℕ → ℕ → (ℕ × ℕ) → Type 0
+Answered p b u o request a = (a .0 ≡ 0) × (a .1 < 2) × ((a .1 ≡ 1) ↔ HoldsAll p b u o request)
+
+-- The short question: the number, and 1 for yes or 0 for no.
+unfoldable pub Short : List ℕ → ℕ → ℕ → ℕ → ℕ → (ℕ × ℕ) → Type 0
+Short b u o request profile a =
+    First (λ n. (n, 0)) (questionNeeds b u o request profile) (Answered (profileOf profile) b u o request) a
 
 -- M-106: the two questions by a directory. "Answers through the directory are proved equal to answers without it".
-unfoldable pub FullBy : List ℕ → List ℕ → ℕ → ℕ → ℕ → (ℕ × ℕ × ℕ × ℕ) → Type 0
-FullBy b d u o request a = By b d unreported (Full b u o request) a
+unfoldable pub FullBy : List ℕ → List ℕ → ℕ → ℕ → ℕ → ℕ → (ℕ × ℕ × ℕ × ℕ) → Type 0
+FullBy b d u o request profile a = By b d unreported (Full b u o request profile) a
 
-unfoldable pub ShortBy : List ℕ → List ℕ → ℕ → ℕ → ℕ → (ℕ × ℕ) → Type 0
-ShortBy b d u o request a = By b d (λ n. (n, 0)) (Short b u o request) a
+unfoldable pub ShortBy : List ℕ → List ℕ → ℕ → ℕ → ℕ → ℕ → (ℕ × ℕ) → Type 0
+ShortBy b d u o request profile a = By b d (λ n. (n, 0)) (Short b u o request profile) a
 
 -- ---- what each case of an answer stands for: 01's number, and its values, which are an outcome of the call
 
@@ -69,14 +78,14 @@ AnswerMeans Outcome answer.Yes = Outcome (0, 1)
 AnswerMeans Outcome answer.No = Outcome (0, 0)
 AnswerMeans Outcome (answer.Refused n) = (0 < n) × Outcome (n, 0)
 
-unfoldable pub Asks : List ℕ → ℕ → ℕ → ℕ → Rights → Type 0
-Asks b u o request r = RightsMean (Full b u o request) r
+unfoldable pub Asks : List ℕ → ℕ → ℕ → ℕ → ℕ → Rights → Type 0
+Asks b u o request profile r = RightsMean (Full b u o request profile) r
 
-unfoldable pub AsksBy : List ℕ → List ℕ → ℕ → ℕ → ℕ → Rights → Type 0
-AsksBy b d u o request r = RightsMean (FullBy b d u o request) r
+unfoldable pub AsksBy : List ℕ → List ℕ → ℕ → ℕ → ℕ → ℕ → Rights → Type 0
+AsksBy b d u o request profile r = RightsMean (FullBy b d u o request profile) r
 
-unfoldable pub AsksAll : List ℕ → ℕ → ℕ → ℕ → Answer → Type 0
-AsksAll b u o request r = AnswerMeans (Short b u o request) r
+unfoldable pub AsksAll : List ℕ → ℕ → ℕ → ℕ → ℕ → Answer → Type 0
+AsksAll b u o request profile r = AnswerMeans (Short b u o request profile) r
 
-unfoldable pub AsksAllBy : List ℕ → List ℕ → ℕ → ℕ → ℕ → Answer → Type 0
-AsksAllBy b d u o request r = AnswerMeans (ShortBy b d u o request) r
+unfoldable pub AsksAllBy : List ℕ → List ℕ → ℕ → ℕ → ℕ → ℕ → Answer → Type 0
+AsksAllBy b d u o request profile r = AnswerMeans (ShortBy b d u o request profile) r

@@ -1,4 +1,5 @@
 -- What only proofs need.
 pub mod Marks
+pub mod Between
 pub mod Lookup
 pub mod Fronts

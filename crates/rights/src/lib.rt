@@ -22,6 +22,12 @@ pub(crate) const LIST: usize = index::NAMES + 1;
 // Stands for the number of a record that has not been looked up; no good block has a record of this number.
 pub(crate) const UNKNOWN: u16 = 65535;
 
+// Denials that win: in the strict profile a right that is barred is not held.
+pub enum Profile {
+    Ordinary,
+    Strict,
+}
+
 // The answer to the full question: the rights held, and the number of M records examined on the user's side and on the object's; or
 // the number of the refusal.
 pub enum Rights {

@@ -1,28 +1,47 @@
 // The two questions, by a directory and without one.
 
 use crate::Answer;
+use crate::Profile;
 use crate::Rights;
 use crate::filter::filter_of;
 use crate::grants::granted;
 use crate::groups::is_open;
 use index::ALL;
 ghost use Prim.Native.Nat.{_<_, _^_};
+ghost use mathlib.Core.Path.{_≡_};
+ghost use mathlib.Core.List.{_++_};
 ghost use Rattle.index.specs.Letters.{rightCount, In, Mask};
 ghost use Rattle.index.specs.Numbers.{Answers};
 ghost use Rattle.index.specs.Block.{Sized, Good, IsName};
 ghost use Rattle.rights.specs.Held.{chainLimit};
 ghost use Rattle.rights.specs.Groups.{Open};
 ghost use Rattle.rights.specs.work.Lookup.{Lent};
-ghost use Rattle.rights.specs.Questions.{askNeeds, Asks, AsksAll, AsksBy, AsksAllBy};
+ghost use Rattle.rights.specs.Profiles.{profileOf};
+ghost use Rattle.rights.specs.Questions.{askNeeds, profileNeeds, Asks, AsksAll, AsksBy, AsksAllBy};
 
 // The greatest name, and the greatest request, which is for all four rights.
 const LAST_NAME: u64 = index::GREATEST_NAME as u64;
 
 const ALL_RIGHTS: u64 = ALL as u64;
 
+// The numbers of the profiles.
+const ORDINARY: u64 = 0;
+
+const STRICT: u64 = 1;
+
+// The profile that a number stands for.
+fn profile_of(n: u64) -> Profile
+    ensures { λ r. ⌜ r ≡ profileOf n ⌝ }
+{
+    if n == ORDINARY {
+        return Profile::Ordinary;
+    }
+    Profile::Strict
+}
+
 // The number of the first requirement of a question, after those of the block, that does not hold, or 0.
-fn refusal(user: u64, object: u64, request: u64) -> u8
-    ensures { λ r. ⌜ Answers (askNeeds user object request) r ⌝ }
+fn refusal(user: u64, object: u64, request: u64, profile: u64) -> u8
+    ensures { λ r. ⌜ Answers (askNeeds user object request ++ profileNeeds profile) r ⌝ }
 {
     if user > LAST_NAME {
         return 4;
@@ -35,6 +54,9 @@ fn refusal(user: u64, object: u64, request: u64) -> u8
     }
     if request > ALL_RIGHTS {
         return 5;
+    }
+    if profile > STRICT {
+        return 15;
     }
     0
 }
@@ -58,16 +80,30 @@ fn opened(block: &[u8], directory: &[u16], user: usize, object: usize, rights: u
 }
 
 // The full question to a good block, by the directory if one is lent.
-fn held(block: &[u8], directory: &[u16], user: u64, object: u64, request: u64) -> Rights
+fn held(
+    block: &[u8],
+    directory: &[u16],
+    user: u64,
+    object: u64,
+    request: u64,
+    profile: u64,
+) -> Rights
     requires { ⌜ Sized (now block) × (Good (now block) × Lent (now block) (now directory)) ⌝ }
-    ensures { λ r. ⌜ Asks (now (block .entry)) user object request r ⌝ }
+    ensures { λ r. ⌜ Asks (now (block .entry)) user object request profile r ⌝ }
 {
-    let number = refusal(user, object, request);
+    let number = refusal(user, object, request, profile);
     if number != 0 {
         return Rights::Refused(number);
     }
     let wanted = filter_of(block, directory, object as usize) & (request as u8);
-    let reach = granted(block, directory, user as usize, object as usize, wanted);
+    let reach = granted(
+        block,
+        directory,
+        user as usize,
+        object as usize,
+        wanted,
+        profile_of(profile),
+    );
     let rights = opened(
         block,
         directory,
@@ -79,11 +115,18 @@ fn held(block: &[u8], directory: &[u16], user: u64, object: u64, request: u64) -
 }
 
 // The short question to a good block, by the directory if one is lent.
-fn all_held(block: &[u8], directory: &[u16], user: u64, object: u64, request: u64) -> Answer
+fn all_held(
+    block: &[u8],
+    directory: &[u16],
+    user: u64,
+    object: u64,
+    request: u64,
+    profile: u64,
+) -> Answer
     requires { ⌜ Sized (now block) × (Good (now block) × Lent (now block) (now directory)) ⌝ }
-    ensures { λ r. ⌜ AsksAll (now (block .entry)) user object request r ⌝ }
+    ensures { λ r. ⌜ AsksAll (now (block .entry)) user object request profile r ⌝ }
 {
-    let number = refusal(user, object, request);
+    let number = refusal(user, object, request, profile);
     if number != 0 {
         return Answer::Refused(number);
     }
@@ -91,7 +134,14 @@ fn all_held(block: &[u8], directory: &[u16], user: u64, object: u64, request: u6
     if filter_of(block, directory, object as usize) & wanted != wanted {
         return Answer::No;
     }
-    let reach = granted(block, directory, user as usize, object as usize, wanted);
+    let reach = granted(
+        block,
+        directory,
+        user as usize,
+        object as usize,
+        wanted,
+        profile_of(profile),
+    );
     if reach.rights != wanted {
         return Answer::No;
     }
@@ -106,47 +156,61 @@ fn all_held(block: &[u8], directory: &[u16], user: u64, object: u64, request: u6
 
 // The full question: the rights that the user holds on the object, limited to those requested, and the number of M records examined
 // on each side.
-pub fn rights_of(block: &[u8], user: u64, object: u64, request: u64) -> Rights
-    ensures { λ r. ⌜ Asks (now (block .entry)) user object request r ⌝ }
+pub fn rights_of(block: &[u8], user: u64, object: u64, request: u64, profile: u64) -> Rights
+    ensures { λ r. ⌜ Asks (now (block .entry)) user object request profile r ⌝ }
 {
     let number = index::tested(block);
     if number != 0 {
         return Rights::Refused(number);
     }
     let none = [0u16; 0];
-    held(block, &none, user, object, request)
+    held(block, &none, user, object, request, profile)
 }
 
 // The full question by the block's directory.
-pub fn rights_by(block: &[u8], directory: &[u16], user: u64, object: u64, request: u64) -> Rights
-    ensures { λ r. ⌜ AsksBy (now (block .entry)) (now (directory .entry)) user object request r ⌝ }
+pub fn rights_by(
+    block: &[u8],
+    directory: &[u16],
+    user: u64,
+    object: u64,
+    request: u64,
+    profile: u64,
+) -> Rights
+    ensures { λ r. ⌜ AsksBy (now (block .entry)) (now (directory .entry)) user object request profile r ⌝ }
 {
     let number = directory::tested_by(block, directory);
     if number != 0 {
         return Rights::Refused(number);
     }
-    held(block, directory, user, object, request)
+    held(block, directory, user, object, request, profile)
 }
 
 // The short question: whether the user holds every requested right on the object.
-pub fn may(block: &[u8], user: u64, object: u64, request: u64) -> Answer
-    ensures { λ r. ⌜ AsksAll (now (block .entry)) user object request r ⌝ }
+pub fn may(block: &[u8], user: u64, object: u64, request: u64, profile: u64) -> Answer
+    ensures { λ r. ⌜ AsksAll (now (block .entry)) user object request profile r ⌝ }
 {
     let number = index::tested(block);
     if number != 0 {
         return Answer::Refused(number);
     }
     let none = [0u16; 0];
-    all_held(block, &none, user, object, request)
+    all_held(block, &none, user, object, request, profile)
 }
 
 // The short question by the block's directory.
-pub fn may_by(block: &[u8], directory: &[u16], user: u64, object: u64, request: u64) -> Answer
-    ensures { λ r. ⌜ AsksAllBy (now (block .entry)) (now (directory .entry)) user object request r ⌝ }
+pub fn may_by(
+    block: &[u8],
+    directory: &[u16],
+    user: u64,
+    object: u64,
+    request: u64,
+    profile: u64,
+) -> Answer
+    ensures { λ r. ⌜ AsksAllBy (now (block .entry)) (now (directory .entry)) user object request profile r ⌝ }
 {
     let number = directory::tested_by(block, directory);
     if number != 0 {
         return Answer::Refused(number);
     }
-    all_held(block, directory, user, object, request)
+    all_held(block, directory, user, object, request, profile)
 }

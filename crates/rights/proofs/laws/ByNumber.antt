@@ -5,13 +5,17 @@ use mathlib.Core.List.{List}
 use mathlib.Core.Logic.{_↔_, ⊎-elim}
 use native.Mathlib.Omega.{arith}
 use Rattle.index.specs.declared.Kind.{Kind}
-use Rattle.index.specs.declared.Kind.the-variants.{Membership}
+use Rattle.index.specs.declared.Kind.the-variants.{Membership, Permission}
 use Rattle.index.specs.Letters.{rightCount}
 use Rattle.index.specs.Block.{mostRecords, size, Of, key, id, Sized, Good, count, NetAt}
 use Rattle.index.specs.work.Places.{At}
 use Rattle.index.proofs.laws.block.Bytes.{number-small}
 use Rattle.index.proofs.laws.block.Records.{few-records, gap-in, where-is, count-at, count-none, of-records}
+use Rattle.rights.specs.declared.Profile.{Profile}
+use Rattle.rights.specs.declared.Profile.the-variants.{Ordinary, Strict}
 use Rattle.rights.specs.Held.{Is, Net}
+use Rattle.rights.specs.Profiles.{Denies}
+use Rattle.rights.specs.work.Between.{BarsAt, BarsBy}
 
 -- The size of the M part is a 16-bit number.
 pub few-members : {b : List ℕ} → Good b → size b Membership < 2 ^ 16
@@ -51,3 +55,22 @@ module _ {b : List ℕ} (g : Good b) (kind : Kind) where
     net-where k n =
         let w = counted k (n .1) in
         (w .0, w .1, net-at k (n .0) (w .1) .1 n)
+
+-- ---- what holds of a P record, by its number and by its key and id
+
+pub record Told (b : List ℕ) (Q : ℕ → ℕ → Type 0) (P : ℕ → ℕ → ℕ → Type 0) : Type 0 where
+  pub at : {x y i : ℕ} (k : ℕ) → k < rightCount → At b Permission x y i → Q i k ↔ P x y k
+  pub where-is : {x y : ℕ} (k : ℕ) → P x y k → (i : ℕ) × At b Permission x y i
+
+-- What it grants.
+pub told-net : {b : List ℕ} → Good b → Told b (NetAt b) (Net b Permission)
+told-net g = record { at = net-at g Permission; where-is = λ k n. let w = net-where g Permission k n in (w .0, w .1) }
+
+-- What it bars.
+pub told-bars : {b : List ℕ} → Good b → (p : Profile) → Told b (BarsAt p b) (BarsBy p b)
+unfolding Denies
+told-bars g Ordinary = record { at = λ k h a. ((λ n. n), (λ n. n)); where-is = λ k n. absurd n }
+told-bars {b} g Strict = record {
+  at = λ {x} {y} {i} k h a. let e = count-at g Permission x y i (k + rightCount) a in ((λ d. (h, rw e d)), (λ d. rw e at (d .1)));
+  where-is = λ k d. counted g Permission (k + rightCount) (d .1);
+}

@@ -2,7 +2,8 @@
 -- From the rights reached to the answers.
 pub mod Asking
 pub mod AskingBy
--- One answer each; the same by a directory; the short one agrees with the full one.
+-- One answer each; the same by a directory; the short one agrees with the full one; the two profiles beside each other.
 pub mod OneAnswer
 pub mod SameAnswers
 pub mod ShortAgrees
+pub mod BothProfiles

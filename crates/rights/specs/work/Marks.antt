@@ -6,14 +6,14 @@ use mathlib.Core.Bool.{Bool, true, false}
 use mathlib.Core.List.{List}
 use mathlib.Core.Logic.{_⊎_}
 use lib.ListN.{length, getD}
-use Rattle.index.specs.declared.Kind.the-variants.{Membership, Permission}
+use Rattle.index.specs.declared.Kind.the-variants.{Membership}
 use Rattle.index.specs.Letters.{rightCount, In, Mask}
 use Rattle.index.specs.Block.{nameCount, size, key}
 use Rattle.rights.specs.declared.walk.Carry.{Carry}
 use Rattle.rights.specs.declared.walk.Carry.the-variants as carry
 use Rattle.rights.specs.Chain.{Chain}
 use Rattle.rights.specs.Groups.{Member, WithoutN, Closes}
-use Rattle.rights.specs.Held.{Net, Carries, chainLimit, Reached}
+use Rattle.rights.specs.Held.{Carries}
 use Rattle.rights.specs.Examined.{HowMany, Examined}
 
 -- Right k is in the mark of z.
@@ -68,14 +68,6 @@ pub record Count (b : List ℕ) (n start examined : ℕ) : Type 0 where
   pub sum : Examined b start n examined
   pub few : examined ≤ 4 * size b Membership
 
--- A P record has right k in its net mask, and it is in the marks of the record's key and id.
-unfoldable pub Grants : List ℕ → List ℕ → List ℕ → ℕ → Type 0
-Grants b users objects k = (g : ℕ) × (s : ℕ) × Marked objects k g × Marked users k s × Net b Permission g s k
-
 -- An M record that can be the last of a chain to her group has a mark at its key and one at its id.
 unfoldable pub Meets : List ℕ → List ℕ → List ℕ → Type 0
 Meets b users objects = (y : ℕ) × (g : ℕ) × Closes b y g × (0 < getD users y 0) × (0 < getD objects g 0)
-
--- The user reaches right k on the object, whatever the filters and her groups.
-unfoldable pub Granted : List ℕ → ℕ → ℕ → ℕ → Type 0
-Granted b u o k = (s : ℕ) × (g : ℕ) × Reached chainLimit b u o k s g × Net b Permission g s k

@@ -1,4 +1,4 @@
--- The two sides of a question, and what the P records grant between them.
+-- The two sides of a question, and what the P records grant and bar between them.
 use Prim.Native.Nat.{ℕ, suc, _+_, _<_}
 use mathlib.Core.Path.{_≡_, refl, subst}
 use mathlib.Core.List.{List}
@@ -14,7 +14,9 @@ use Rattle.rights.specs.declared.walk.Carry.{Carry}
 use Rattle.rights.specs.declared.walk.Carry.the-variants.{Rights}
 use Rattle.rights.specs.Chain.{Chain}
 use Rattle.rights.specs.Held.{Carries, chainLimit}
-use Rattle.rights.specs.work.Marks.{Marked, Walked, Side, Count, Grants, Granted}
+use Rattle.rights.specs.declared.Profile.{Profile}
+use Rattle.rights.specs.work.Marks.{Marked, Walked, Side, Count}
+use Rattle.rights.specs.work.Between.{Between, Led, GrantsIn, GrantedIn}
 use Rattle.rights.specs.work.Fronts.{Front, Settled}
 use Rattle.rights.proofs.laws.examined.AtMostFourTimes.{examined-few}
 use Rattle.rights.proofs.laws.examined.Examining.{walked-examined}
@@ -73,9 +75,9 @@ module _ (b us os : List ℕ) (u o : ℕ) (long : length os ≡ nameCount) (user
             (λ k h. ((λ c. inl c), (λ s. ⊎-elim (λ c. c) (λ e. absurd (ne e)) s))))
       ]
 
-  grants-granted : (k : ℕ) → k < rightCount → Grants b us (set os 0 allRights) k ↔ Granted b u o k
-  unfolding Side Grants Granted
-  grants-granted k h = (
+  between-led : (P : ℕ → ℕ → ℕ → Type 0) (k : ℕ) → k < rightCount → Between us (set os 0 allRights) P k ↔ Led b u o P k
+  unfolding Side Between Led
+  between-led P k h = (
     (λ t. (
       t .1,
       t .0,
@@ -92,11 +94,12 @@ module _ (b us os : List ℕ) (u o : ℕ) (long : length os ≡ nameCount) (user
   )
 
   -- What the search finds between them.
-  pub reached : (r request : ℕ) → Mask r (λ k. Grants b us (set os 0 allRights) k × In k request)
-      → Mask r (λ k. Granted b u o k × In k request)
-  reached r request found =
-      mask-map found (λ k. Granted b u o k × In k request)
+  pub reached : (p : Profile) {r : ℕ} (request : ℕ) → Mask r (λ k. GrantsIn p b us (set os 0 allRights) k × In k request)
+      → Mask r (λ k. GrantedIn p b u o k × In k request)
+  unfolding GrantsIn GrantedIn
+  reached p request found =
+      mask-map found _
       (λ k h. (
-        (λ p. (grants-granted k h .0 (p .0), p .1)),
-        (λ p. (grants-granted k h .1 (p .0), p .1)),
+        (λ q. ((between-led _ k h .0 (q .0 .0), λ d. q .0 .1 (between-led _ k h .1 d)), q .1)),
+        (λ q. ((between-led _ k h .1 (q .0 .0), λ d. q .0 .1 (between-led _ k h .0 d)), q .1)),
       ))

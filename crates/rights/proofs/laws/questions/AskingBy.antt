@@ -37,32 +37,32 @@ answer-map P Q f answer.Yes p = f (0, 1) p
 answer-map P Q f answer.No p = f (0, 0) p
 answer-map P Q f (answer.Refused n) p = (p .0, f (n, 0) (p .1))
 
-module _ (b : List ℕ) (u o request : ℕ) where
+module _ (b : List ℕ) (u o request profile : ℕ) where
   -- ---- refused for the block
 
-  pub asks-refused : (n : ℕ) → (n ≡ 0 → ⊥) → Answers (blockNeeds b) n → Asks b u o request (rights.Refused n)
+  pub asks-refused : (n : ℕ) → (n ≡ 0 → ⊥) → Answers (blockNeeds b) n → Asks b u o request profile (rights.Refused n)
   unfolding Asks Full
-  asks-refused n some a = (positive n some, refused-block b u o request unreported _ n some a)
+  asks-refused n some a = (positive n some, refused-block b u o request profile unreported _ n some a)
 
-  pub asks-all-refused : (n : ℕ) → (n ≡ 0 → ⊥) → Answers (blockNeeds b) n → AsksAll b u o request (answer.Refused n)
+  pub asks-all-refused : (n : ℕ) → (n ≡ 0 → ⊥) → Answers (blockNeeds b) n → AsksAll b u o request profile (answer.Refused n)
   unfolding AsksAll Short
-  asks-all-refused n some a = (positive n some, refused-block b u o request (λ n. (n, 0)) _ n some a)
+  asks-all-refused n some a = (positive n some, refused-block b u o request profile (λ n. (n, 0)) _ n some a)
 
   -- ---- by a directory: refused for it, or as without it
 
   module _ (d : List ℕ) {n : ℕ} (told : Answers (directoryNeeds b d) n) where
-    pub asks-by-refused : (n ≡ 0 → ⊥) → AsksBy b d u o request (rights.Refused n)
+    pub asks-by-refused : (n ≡ 0 → ⊥) → AsksBy b d u o request profile (rights.Refused n)
     unfolding AsksBy FullBy
-    asks-by-refused some = (positive n some, by-refused b d unreported (Full b u o request) some told)
+    asks-by-refused some = (positive n some, by-refused b d unreported (Full b u o request profile) some told)
 
-    pub asks-by : n ≡ 0 → (r : Rights) → Asks b u o request r → AsksBy b d u o request r
+    pub asks-by : n ≡ 0 → (r : Rights) → Asks b u o request profile r → AsksBy b d u o request profile r
     unfolding Asks AsksBy FullBy
-    asks-by zero = rights-map _ _ (λ a. by-fit b d unreported (Full b u o request) a (fit b d zero told))
+    asks-by zero = rights-map _ _ (λ a. by-fit b d unreported (Full b u o request profile) a (fit b d zero told))
 
-    pub asks-all-by-refused : (n ≡ 0 → ⊥) → AsksAllBy b d u o request (answer.Refused n)
+    pub asks-all-by-refused : (n ≡ 0 → ⊥) → AsksAllBy b d u o request profile (answer.Refused n)
     unfolding AsksAllBy ShortBy
-    asks-all-by-refused some = (positive n some, by-refused b d (λ n. (n, 0)) (Short b u o request) some told)
+    asks-all-by-refused some = (positive n some, by-refused b d (λ n. (n, 0)) (Short b u o request profile) some told)
 
-    pub asks-all-by : n ≡ 0 → (r : Answer) → AsksAll b u o request r → AsksAllBy b d u o request r
+    pub asks-all-by : n ≡ 0 → (r : Answer) → AsksAll b u o request profile r → AsksAllBy b d u o request profile r
     unfolding AsksAll AsksAllBy ShortBy
-    asks-all-by zero = answer-map _ _ (λ a. by-fit b d (λ n. (n, 0)) (Short b u o request) a (fit b d zero told))
+    asks-all-by zero = answer-map _ _ (λ a. by-fit b d (λ n. (n, 0)) (Short b u o request profile) a (fit b d zero told))

@@ -12,7 +12,8 @@ use Rattle.rights.specs.declared.Rights.{Rights}
 use Rattle.rights.specs.declared.Rights.the-variants as rights
 use Rattle.rights.specs.declared.Answer.{Answer}
 use Rattle.rights.specs.declared.Answer.the-variants as answer
-use Rattle.rights.specs.Questions.{questionNeeds, Limited, HoldsAll, Reports, unreported, Full, Short, RightsMean, AnswerMeans, Asks, AsksAll}
+use Rattle.rights.specs.Profiles.{profileOf}
+use Rattle.rights.specs.Questions.{questionNeeds, Limited, Reports, Answered, unreported, Full, Short, RightsMean, AnswerMeans, Asks, AsksAll}
 use Rattle.rights.proofs.laws.examined.ExaminedOnce.{examined-once}
 
 one-bit : {H : Type 0} (m n : ℕ) → m < 2 → n < 2 → (m ≡ 1) ↔ H → (n ≡ 1) ↔ H → m ≡ n
@@ -35,11 +36,11 @@ answerOf (ℕ.zero, ℕ.zero) = answer.No
 answerOf (ℕ.zero, suc m) = answer.Yes
 answerOf (suc n, m) = answer.Refused (suc n)
 
-module _ (b : List ℕ) (u o request : ℕ) where
-  pub one-full : (a c : ℕ × ℕ × ℕ × ℕ) → Full b u o request a → Full b u o request c → a ≡ c
+module _ (b : List ℕ) (u o request profile : ℕ) where
+  pub one-full : (a c : ℕ × ℕ × ℕ × ℕ) → Full b u o request profile a → Full b u o request profile c → a ≡ c
   unfolding Full Limited
   one-full =
-      one-first unreported (questionNeeds b u o request) (Reports b u o request)
+      one-first unreported (questionNeeds b u o request profile) (Reports (profileOf profile) b u o request)
       (λ a c p q.
       let n : a .0 ≡ c .0 = p .0 ∙ sym (q .0) in
       let m : a .1 ≡ c .1 = mask-one (p .1) (q .1) in
@@ -47,11 +48,10 @@ module _ (b : List ℕ) (u o request : ℕ) where
       let y : a .3 ≡ c .3 = examined-once (p .3) (q .3) in
       λ i. (n i, m i, x i, y i))
 
-  pub one-short : (a c : ℕ × ℕ) → Short b u o request a → Short b u o request c → a ≡ c
+  pub one-short : (a c : ℕ × ℕ) → Short b u o request profile a → Short b u o request profile c → a ≡ c
   unfolding Short
   one-short =
-      one-first (λ n. (n, 0)) (questionNeeds b u o request)
-      (λ a. (a .0 ≡ 0) × (a .1 < 2) × ((a .1 ≡ 1) ↔ HoldsAll b u o request))
+      one-first (λ n. (n, 0)) (questionNeeds b u o request profile) (Answered (profileOf profile) b u o request)
       (λ a c p q.
       let n : a .0 ≡ c .0 = p .0 ∙ sym (q .0) in
       let m : a .1 ≡ c .1 = one-bit (a .1) (c .1) (p .1) (q .1) (p .2) (q .2) in
@@ -85,27 +85,28 @@ answer-once Outcome one r s p q =
     let y = answer-back Outcome s q in
     sym (x .2) ∙ ap answerOf (one (x .0) (y .0) (x .1) (y .1)) ∙ y .2
 
-module _ (b : List ℕ) (u o request : ℕ) where
-  pub one-asks : (r s : Rights) → Asks b u o request r → Asks b u o request s → r ≡ s
+module _ (b : List ℕ) (u o request profile : ℕ) where
+  pub one-asks : (r s : Rights) → Asks b u o request profile r → Asks b u o request profile s → r ≡ s
   unfolding Asks
-  one-asks = rights-once (Full b u o request) (one-full b u o request)
+  one-asks = rights-once (Full b u o request profile) (one-full b u o request profile)
 
-  pub one-asks-all : (r s : Answer) → AsksAll b u o request r → AsksAll b u o request s → r ≡ s
+  pub one-asks-all : (r s : Answer) → AsksAll b u o request profile r → AsksAll b u o request profile s → r ≡ s
   unfolding AsksAll
-  one-asks-all = answer-once (Short b u o request) (one-short b u o request)
+  one-asks-all = answer-once (Short b u o request profile) (one-short b u o request profile)
 
 -- What an accepted answer says: its requirements hold, its mask is of the rights held, and its numbers are of the records examined.
-pub accepted-full : (b : List ℕ) (u o request mask i j : ℕ) → Full b u o request (0, mask, i, j)
-    → All (questionNeeds b u o request) × Reports b u o request (0, mask, i, j)
+pub accepted-full : (b : List ℕ) (u o request profile mask i j : ℕ) → Full b u o request profile (0, mask, i, j)
+    → All (questionNeeds b u o request profile) × Reports (profileOf profile) b u o request (0, mask, i, j)
 unfolding Full questionNeeds blockNeeds
-accepted-full b u o request mask i j h =
-    first-passed unreported (Reports b u o request) (0, mask, i, j) (λ a. a .0) (λ n. refl)
-    (questionNeeds b u o request) (omega arith) refl h
+accepted-full b u o request profile mask i j h =
+    first-passed unreported (Reports (profileOf profile) b u o request) (0, mask, i, j) (λ a. a .0) (λ n. refl)
+    (questionNeeds b u o request profile) (omega arith) refl h
 
--- M-109: "Request, filter and markers have no part in it": two requests about the same user and object get the same numbers.
-pub same-numbers : (b : List ℕ) (u o q q′ m m′ i i′ j j′ : ℕ) → Full b u o q (0, m, i, j) → Full b u o q′ (0, m′, i′, j′)
+-- M-109: "Request, filter and markers have no part in it", nor has the profile: two requests about the same user and object, in whichever
+-- profiles, get the same numbers.
+pub same-numbers : (b : List ℕ) (u o q q′ p p′ m m′ i i′ j j′ : ℕ) → Full b u o q p (0, m, i, j) → Full b u o q′ p′ (0, m′, i′, j′)
     → (i ≡ i′) × (j ≡ j′)
-same-numbers b u o q q′ m m′ i i′ j j′ f f′ =
-    let r = accepted-full b u o q m i j f .1 in
-    let r′ = accepted-full b u o q′ m′ i′ j′ f′ .1 in
+same-numbers b u o q q′ p p′ m m′ i i′ j j′ f f′ =
+    let r = accepted-full b u o q p m i j f .1 in
+    let r′ = accepted-full b u o q′ p′ m′ i′ j′ f′ .1 in
     (examined-once (r .2) (r′ .2), examined-once (r .3) (r′ .3))

@@ -1,7 +1,7 @@
 -- A test of chains that computes: the names that chains of at most n records lead to, as a list.
 use Prim.Native.Nat.{ℕ, zero, suc, _+_, _<_, _≤_}
 use mathlib.Core.Path.{_≡_, refl, sym, subst}
-use mathlib.Core.Bool.{Bool, true, false, cond, _&&_}
+use mathlib.Core.Bool.{Bool, true, false, cond, _&&_, not}
 use mathlib.Core.List.{List, [], _∷_}
 use mathlib.Core.Logic.{_⊎_, _↔_, inl, inr, ⊎-elim}
 use native.Mathlib.Omega.{arith}
@@ -21,6 +21,11 @@ use Rattle.rights.proofs.laws.walk.MarksAreChains.{stays, one-more}
 
 pub and-true : {s t : Bool} → s ≡ true → t ≡ true → s && t ≡ true
 and-true p q = rw (p, q) refl
+
+-- What the test says no to is not so.
+pub not-test : {P : Type 0} (t : Bool) → (t ≡ true) ↔ P → (not t ≡ true) ↔ (P → ⊥)
+not-test true right = ((λ e. let z : _≡_ {A = ℕ} 0 1 = cc in absurd (omega arith)), (λ f. absurd (f (right .0 refl))))
+not-test false right = ((λ e p. let e : false ≡ true = right .1 p in let z : _≡_ {A = ℕ} 0 1 = cc in omega arith), (λ f. refl))
 
 -- The name is in the list.
 abbrev pub member : ℕ → List ℕ → Bool

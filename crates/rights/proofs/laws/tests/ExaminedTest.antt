@@ -16,7 +16,7 @@ use Rattle.rights.specs.Examined.{Mark, MarkBefore, Differs, HowMany, Ex
 use Rattle.rights.specs.Examined.HowMany.{none, one, other}
 use Rattle.rights.specs.Examined.Examined.{before, round}
 use Rattle.rights.proofs.laws.ByNumber.{net-where}
-use Rattle.rights.proofs.laws.tests.ChainTest.{and-true, from-some, member, carriedTo, carried-test}
+use Rattle.rights.proofs.laws.tests.ChainTest.{and-true, not-test, from-some, member, carriedTo, carried-test}
 use Rattle.rights.proofs.laws.Counting.{count-none, count-zero}
 use Rattle.rights.proofs.laws.walk.MarksAreChains.{one-more}
 
@@ -61,11 +61,6 @@ decided : {P : Type 0} (t : Bool) → (t ≡ true) ↔ P → Decided P
 decided true w = inl (w .0 refl)
 decided false w = inr (λ p. let e : false ≡ true = w .1 p in let z : _≡_ {A = ℕ} 0 1 = cc in omega arith)
 
--- What is not, and is not so.
-not-true : (t : Bool) → (not t ≡ true) ↔ (t ≡ true → ⊥)
-not-true true = ((λ e. let z : _≡_ {A = ℕ} 0 1 = cc in absurd (omega arith)), (λ f. absurd (f refl)))
-not-true false = ((λ e f. let z : _≡_ {A = ℕ} 0 1 = cc in omega arith), (λ f. refl))
-
 module _ {b : List ℕ} (g : Good b) (s : ℕ) where
   before-test : (n x k : ℕ) → k < rightCount → (beforeTest b s n x k ≡ true) ↔ MarkBefore b s n x k
   unfolding MarkBefore Mark
@@ -82,13 +77,13 @@ module _ {b : List ℕ} (g : Good b) (s : ℕ) where
           w .0,
           h,
           before-test (suc n) x (w .0) h .0 (p .0),
-          λ m. not-true (beforeTest b s n x (w .0)) .0 (p .1) (before-test n x (w .0) h .1 m),
+          not-test (beforeTest b s n x (w .0)) (before-test n x (w .0) h) .0 (p .1),
         )),
     (λ d.
         let k = d .0 in
         from-some (newTest b s n x) 0 rightCount k (omega arith) (omega (arith, d .1))
         (and-true (before-test (suc n) x k (d .1) .1 (d .2))
-        (not-true (beforeTest b s n x k) .1 (λ e. d .3 (before-test n x k (d .1) .0 e))))),
+        (not-test (beforeTest b s n x k) (before-test n x k (d .1)) .1 (d .3)))),
   )
 
   round-test : (n m : ℕ) → HowMany (λ i. Differs b s n (key b i)) m (roundTest b s n m)

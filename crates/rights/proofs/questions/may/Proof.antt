@@ -5,7 +5,7 @@ use Rattle.rights.proofs.questions.may.Statement.{statement}
 use Rattle.rights.proofs.questions.may.Tie as tie
 
 returns : tie.Need-returns
-returns c = asks-all-refused _ _ _ _ _ (c .if1 .taken) (c .before .tested .ensures)
+returns c = asks-all-refused _ _ _ _ _ _ (c .if1 .taken) (c .before .tested .ensures)
 
 all-held-requires : tie.Need-all-held-requires
 all-held-requires c κs = lent-none _ (c .before .if1 .left) (c .before .before .tested .ensures)

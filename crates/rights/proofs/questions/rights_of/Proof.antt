@@ -5,7 +5,7 @@ use Rattle.rights.proofs.questions.rights_of.Statement.{statement}
 use Rattle.rights.proofs.questions.rights_of.Tie as tie
 
 returns : tie.Need-returns
-returns c = asks-refused _ _ _ _ _ (c .if1 .taken) (c .before .tested .ensures)
+returns c = asks-refused _ _ _ _ _ _ (c .if1 .taken) (c .before .tested .ensures)
 
 held-requires : tie.Need-held-requires
 held-requires c κs = lent-none _ (c .before .if1 .left) (c .before .before .tested .ensures)
