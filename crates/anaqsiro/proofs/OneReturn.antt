@@ -98,15 +98,15 @@ module _ (Outcome : ℕ × ℕ × ℕ × ℕ → Type 0) (one : One Outcome) whe
       let v : a .1 ≡ c .1 = omega (arith, p .3 .is, q .3 .is, m, i, j) in
       λ k. (n k, v k))
 
-module _ (b : List ℕ) (u o request : ℕ) where
-  pub one-rights-return : (r r₂ : ℕ) → RightsReturns b u o request r → RightsReturns b u o request r₂ → r ≡ r₂
+module _ (b : List ℕ) (u o request profile : ℕ) where
+  pub one-rights-return : (r r₂ : ℕ) → RightsReturns b u o request profile r → RightsReturns b u o request profile r₂ → r ≡ r₂
   unfolding RightsReturns
   one-rights-return =
-      one-in-parts (Full b u o request) (one-full b u o request)
+      one-in-parts (Full b u o request profile) (one-full b u o request profile)
 
-  pub one-may-return : (r r₂ : ℕ) → MayReturns b u o request r → MayReturns b u o request r₂ → r ≡ r₂
+  pub one-may-return : (r r₂ : ℕ) → MayReturns b u o request profile r → MayReturns b u o request profile r₂ → r ≡ r₂
   unfolding MayReturns
-  one-may-return = one-answer (Short b u o request) (one-short b u o request)
+  one-may-return = one-answer (Short b u o request profile) (one-short b u o request profile)
 
 -- ---- M-106: by a directory
 
@@ -133,14 +133,14 @@ module _ (b d : List ℕ) where
   unfolding SendsByReturns
   one-sent-by-return m = one-both (SendsBy b d m) (one-sent-by b d m)
 
-  module _ (u o request : ℕ) where
-    pub one-rights-by-return : (r r₂ : ℕ) → RightsByReturns b d u o request r → RightsByReturns b d u o request r₂ → r ≡ r₂
+  module _ (u o request profile : ℕ) where
+    pub one-rights-by-return : (r r₂ : ℕ) → RightsByReturns b d u o request profile r → RightsByReturns b d u o request profile r₂ → r ≡ r₂
     unfolding RightsByReturns
-    one-rights-by-return = one-in-parts (FullBy b d u o request) (one-full-by b u o request d)
+    one-rights-by-return = one-in-parts (FullBy b d u o request profile) (one-full-by b u o request profile d)
 
-    pub one-may-by-return : (r r₂ : ℕ) → MayByReturns b d u o request r → MayByReturns b d u o request r₂ → r ≡ r₂
+    pub one-may-by-return : (r r₂ : ℕ) → MayByReturns b d u o request profile r → MayByReturns b d u o request profile r₂ → r ≡ r₂
     unfolding MayByReturns
-    one-may-by-return = one-answer (ShortBy b d u o request) (one-short-by b u o request d)
+    one-may-by-return = one-answer (ShortBy b d u o request profile) (one-short-by b u o request profile d)
 
   module _ (kind x : ℕ) (s : List ℕ) (r r₂ : ℕ) where
     pub one-write-by-return : (s′ s₂′ : List ℕ) → WriteByReturns b d kind x s r s′ → WriteByReturns b d kind x s r₂ s₂′

@@ -53,11 +53,12 @@ abbrev pub InParts : (ℕ × ℕ × ℕ × ℕ → Type 0) → ℕ → ℕ → T
 InParts Outcome n v =
     (rights : ℕ) × (user : ℕ) × (object : ℕ) × Parts rights user object v × Outcome (n, rights, user, object)
 
-unfoldable pub RightsReturns : List ℕ → ℕ → ℕ → ℕ → ℕ → Type 0
-RightsReturns b u o request r = Returned (InParts (Full b u o request)) r
+-- The two questions, in a profile (M-112).
+unfoldable pub RightsReturns : List ℕ → ℕ → ℕ → ℕ → ℕ → ℕ → Type 0
+RightsReturns b u o request profile r = Returned (InParts (Full b u o request profile)) r
 
-unfoldable pub MayReturns : List ℕ → ℕ → ℕ → ℕ → ℕ → Type 0
-MayReturns b u o request r = Returned (λ n v. Short b u o request (n, v)) r
+unfoldable pub MayReturns : List ℕ → ℕ → ℕ → ℕ → ℕ → ℕ → Type 0
+MayReturns b u o request profile r = Returned (λ n v. Short b u o request profile (n, v)) r
 
 unfoldable pub WriteReturns : List ℕ → ℕ → ℕ → List ℕ → ℕ → List ℕ → Type 0
 WriteReturns b kind x out r out′ = Returned (λ n v. WritesSet b kind x out (n, v, out′)) r
@@ -79,11 +80,11 @@ MessageByReturns b d m r b′ d′ = SendsByReturns b d (plain m) r b′ d′
 abbrev pub WideByReturns : List ℕ → List ℕ → List ℕ → ℕ → List ℕ → List ℕ → Type 0
 WideByReturns b d m r b′ d′ = SendsByReturns b d (wide m) r b′ d′
 
-unfoldable pub RightsByReturns : List ℕ → List ℕ → ℕ → ℕ → ℕ → ℕ → Type 0
-RightsByReturns b d u o request r = Returned (InParts (FullBy b d u o request)) r
+unfoldable pub RightsByReturns : List ℕ → List ℕ → ℕ → ℕ → ℕ → ℕ → ℕ → Type 0
+RightsByReturns b d u o request profile r = Returned (InParts (FullBy b d u o request profile)) r
 
-unfoldable pub MayByReturns : List ℕ → List ℕ → ℕ → ℕ → ℕ → ℕ → Type 0
-MayByReturns b d u o request r = Returned (λ n v. ShortBy b d u o request (n, v)) r
+unfoldable pub MayByReturns : List ℕ → List ℕ → ℕ → ℕ → ℕ → ℕ → ℕ → Type 0
+MayByReturns b d u o request profile r = Returned (λ n v. ShortBy b d u o request profile (n, v)) r
 
 unfoldable pub WriteByReturns : List ℕ → List ℕ → ℕ → ℕ → List ℕ → ℕ → List ℕ → Type 0
 WriteByReturns b d kind x out r out′ = Returned (λ n v. WriteBy b d kind x out (n, v, out′)) r

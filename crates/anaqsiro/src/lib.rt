@@ -151,18 +151,30 @@ pub extern "C" fn anaqsiro_wide(block: &mut [u8], message: &[u8]) -> u64
 
 // The full question.
 #[no_mangle]
-pub extern "C" fn anaqsiro_rights(block: &[u8], user: u64, object: u64, request: u64) -> u64
-    ensures { λ r. ⌜ RightsReturns (now (block .entry)) user object request r ⌝ }
+pub extern "C" fn anaqsiro_rights(
+    block: &[u8],
+    user: u64,
+    object: u64,
+    request: u64,
+    profile: u64,
+) -> u64
+    ensures { λ r. ⌜ RightsReturns (now (block .entry)) user object request profile r ⌝ }
 {
-    of_rights(rights::rights_of(block, user, object, request))
+    of_rights(rights::rights_of(block, user, object, request, profile))
 }
 
 // The short question.
 #[no_mangle]
-pub extern "C" fn anaqsiro_may(block: &[u8], user: u64, object: u64, request: u64) -> u64
-    ensures { λ r. ⌜ MayReturns (now (block .entry)) user object request r ⌝ }
+pub extern "C" fn anaqsiro_may(
+    block: &[u8],
+    user: u64,
+    object: u64,
+    request: u64,
+    profile: u64,
+) -> u64
+    ensures { λ r. ⌜ MayReturns (now (block .entry)) user object request profile r ⌝ }
 {
-    of_answer(rights::may(block, user, object, request))
+    of_answer(rights::may(block, user, object, request, profile))
 }
 
 // A set is written as text.
@@ -216,10 +228,11 @@ pub extern "C" fn anaqsiro_rights_by(
     user: u64,
     object: u64,
     request: u64,
+    profile: u64,
 ) -> u64
-    ensures { λ r. ⌜ RightsByReturns (now (block .entry)) (now (directory .entry)) user object request r ⌝ }
+    ensures { λ r. ⌜ RightsByReturns (now (block .entry)) (now (directory .entry)) user object request profile r ⌝ }
 {
-    of_rights(rights::rights_by(block, directory, user, object, request))
+    of_rights(rights::rights_by(block, directory, user, object, request, profile))
 }
 
 #[no_mangle]
@@ -229,10 +242,11 @@ pub extern "C" fn anaqsiro_may_by(
     user: u64,
     object: u64,
     request: u64,
+    profile: u64,
 ) -> u64
-    ensures { λ r. ⌜ MayByReturns (now (block .entry)) (now (directory .entry)) user object request r ⌝ }
+    ensures { λ r. ⌜ MayByReturns (now (block .entry)) (now (directory .entry)) user object request profile r ⌝ }
 {
-    of_answer(rights::may_by(block, directory, user, object, request))
+    of_answer(rights::may_by(block, directory, user, object, request, profile))
 }
 
 #[no_mangle]

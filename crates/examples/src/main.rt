@@ -6,6 +6,11 @@ use rights::Answer;
 use rights::Rights;
 ghost use Prim.Native.Nat.{_<_};
 
+// The numbers of the two profiles.
+const ORDINARY: u64 = 0;
+
+const STRICT: u64 = 1;
+
 // One line: the words, and a number.
 fn say(words: &[u8], n: u64) -> bool {
     io::write_all(1, words);
@@ -42,29 +47,43 @@ fn withdraw(block: &mut [u8], kind: u8, key: u16, id: u16, mask: u8) -> u8 {
     index::message(block, &message)
 }
 
-// The rights of the user on the object, all four asked for; 100 and the number for a refusal.
-fn full(block: &[u8], user: u64, object: u64) -> u64 {
-    match rights::rights_of(block, user, object, 15) {
+// The rights of the user on the object in the profile, all four asked for; 100 and the number for a refusal.
+fn held(block: &[u8], user: u64, object: u64, profile: u64) -> u64 {
+    match rights::rights_of(block, user, object, 15, profile) {
         Rights::Held(mask, _, _) => mask as u64,
         Rights::Refused(number) => 100 + number as u64,
     }
 }
 
+// In the ordinary profile, and in the strict one.
+fn full(block: &[u8], user: u64, object: u64) -> u64 {
+    held(block, user, object, ORDINARY)
+}
+
+fn strict(block: &[u8], user: u64, object: u64) -> u64 {
+    held(block, user, object, STRICT)
+}
+
 // How many M records a question examines on both sides together; 0 for a refusal.
 fn examined(block: &[u8], user: u64, object: u64) -> u64 {
-    match rights::rights_of(block, user, object, 15) {
+    match rights::rights_of(block, user, object, 15, ORDINARY) {
         Rights::Held(_, of_user, of_object) => of_user as u64 + of_object as u64,
         Rights::Refused(_) => 0,
     }
 }
 
-// 1 for yes and 0 for no; 100 and the number for a refusal.
-fn short(block: &[u8], user: u64, object: u64, request: u64) -> u64 {
-    match rights::may(block, user, object, request) {
+// 1 for yes and 0 for no, in the profile; 100 and the number for a refusal.
+fn short_in(block: &[u8], user: u64, object: u64, request: u64, profile: u64) -> u64 {
+    match rights::may(block, user, object, request, profile) {
         Answer::Yes => 1,
         Answer::No => 0,
         Answer::Refused(number) => 100 + number as u64,
     }
+}
+
+// In the ordinary profile.
+fn short(block: &[u8], user: u64, object: u64, request: u64) -> u64 {
+    short_in(block, user, object, request, ORDINARY)
 }
 
 // How often the first record of the block counts U, and whether 1 may update 9.
@@ -119,6 +138,26 @@ fn chains(long: u16) -> bool
     say(b"  object's side: ", full(&other, 9, 100));
     say(b"  may read: ", short(&block, 100, 9, 2));
     say(b"  memberships examined: ", examined(&block, 100, 9))
+}
+
+// A denial at the end of a chain of M records on the user's side and then on the object's: whether it bars in the strict profile.
+fn far_denials(long: u16) -> bool
+    requires { ⌜ long < 900 ⌝ }
+{
+    let mut block = [0u8; HEADER + 50 * RECORD];
+    index::make(&mut block);
+    chain(&mut block, long);
+    let mut other = block;
+    let last = 100 + long;
+    give(&mut block, 2, 9, 100, 2);
+    give(&mut block, 2, 9, last, 32);
+    give(&mut other, 2, 100, 9, 2);
+    give(&mut other, 2, last, 9, 32);
+    say(b"denied at the end of a chain of ", long as u64);
+    say(b"  user's side: ", full(&block, 100, 9));
+    say(b"    strict: ", strict(&block, 100, 9));
+    say(b"  object's side: ", full(&other, 9, 100));
+    say(b"    strict: ", strict(&other, 9, 100))
 }
 
 // Blocks at the ends of the range of lengths.
@@ -180,13 +219,50 @@ fn filters() -> bool {
     say(b"one on name 0: ", full(&block, 1, 9))
 }
 
+// The rights of 1 on 9 in both profiles, with the words before them.
+fn both(words: &[u8], block: &[u8]) -> bool {
+    io::write_all(1, words);
+    io::print_decimal(1, full(block, 1, 9));
+    say(b", strict: ", strict(block, 1, 9))
+}
+
+// Denials, one after the other: 1 is in the group 2, and 9 in the group 7, each for R alone.
+fn denials() -> bool {
+    let mut block = [0u8; HEADER + 10 * RECORD];
+    index::make(&mut block);
+    give(&mut block, 2, 9, 1, 15);
+    give(&mut block, 1, 1, 2, 2);
+    give(&mut block, 1, 9, 7, 2);
+    both(b"no denial: ", &block);
+    give(&mut block, 2, 7, 1, 32);
+    both(b"read denied on the object's group: ", &block);
+    give(&mut block, 2, 7, 1, 66);
+    both(
+        b"granted there too, and update denied, which it is not reached for: ",
+        &block,
+    );
+    withdraw(&mut block, 2, 7, 1, 32);
+    both(b"read no longer denied: ", &block);
+    give(&mut block, 2, 9, 1, 128);
+    both(b"delete denied in the record that grants: ", &block);
+    give(&mut block, 2, 0, 1, 16);
+    both(b"create denied on name 0: ", &block);
+    say(b"profile 2: ", held(&block, 1, 9, 2));
+    say(b"profile 4,294,967,297: ", held(&block, 1, 9, 4294967297));
+    say(b"user 1,024, profile 2: ", held(&block, 1024, 9, 2));
+    say(b"request 0, profile 2: ", short_in(&block, 1, 9, 0, 2))
+}
+
 fn main() {
     mill();
     chains(31);
     chains(32);
     chains(33);
     chains(40);
+    far_denials(32);
+    far_denials(33);
     lengths();
     zero();
     filters();
+    denials();
 }

@@ -51,7 +51,7 @@ Test (Case.next l n m) = (dayFails l n ≡ 0) × (nextTest l n ≡ m)
 Test (Case.moved b l old new b′) =
     (ds : List (List ℕ)) × (blockTest b ≡ true) × (daysFail l old new ≡ 0) × (throughTest noneLeft (steps l old new) b ds ≡ true) × (lastOf b ds ≡ b′)
 Test (Case.refused b l old new n) = (blockTest b ≡ true) × (Stopped b l old new n ⊎ Damaged l old new n)
-Test (Case.holds b u o mask) = rightsTest b u mask o ≡ true
+Test (Case.holds b u o mask) = rightsTest b u mask mask o ≡ true
 
 -- Each test means what its case says.
 day-test : (y m d n : ℕ) → dateTest (date y m d) ≡ true → dayNumber (date y m d) ≡ n → DayOf y m d (0, n)
@@ -76,7 +76,7 @@ means (Case.next l n m) e = next-change-test l n (e .0) m (e .1)
 means (Case.moved b l old new b′) e =
     subst (λ (d : List ℕ). Moved b l old new (0, d)) (e .4) (moved-test b l old new (e .1) (e .2) (e .0) (e .3))
 means (Case.refused b l old new n) e = refused-test b l old new n (e .0) (e .1)
-means (Case.holds b u o mask) e = (_, _, rights-test b u mask o _ _ (e, refl, refl))
+means (Case.holds b u o mask) e = λ p is. (_, _, rights-test b u mask o _ _ (e, refl, refl) p is)
 
 all-mean : (cs : List Case) → Each Test cs → Each Shows cs
 all-mean [] e = tt

@@ -93,28 +93,28 @@ module _ (b : List ℕ) (kind x : ℕ) (s : List ℕ) (n v : ℕ) (s′ : List �
       let l = lent b (λ n. (n, 0, s)) (WritesSet b kind x s) (write-tests b kind x s) (n, v, s′) told in
       (l .directory, by-lent b (λ n. (n, 0, s)) (WritesSet b kind x s) (write-tests b kind x s) (n, v, s′) told l)
 
-pub full-lent : (b : List ℕ) (u o request : ℕ) (a : ℕ × ℕ × ℕ × ℕ) → Full b u o request a → (d : List ℕ) × FullBy b d u o request a
+pub full-lent : (b : List ℕ) (u o request profile : ℕ) (a : ℕ × ℕ × ℕ × ℕ) → Full b u o request profile a → (d : List ℕ) × FullBy b d u o request profile a
 unfolding FullBy
-full-lent b u o request a full =
-    let l = lent b unreported (Full b u o request) (full-tests b u o request) a full in
-    (l .directory, by-lent b unreported (Full b u o request) (full-tests b u o request) a full l)
+full-lent b u o request profile a full =
+    let l = lent b unreported (Full b u o request profile) (full-tests b u o request profile) a full in
+    (l .directory, by-lent b unreported (Full b u o request profile) (full-tests b u o request profile) a full l)
 
-pub short-lent : (b : List ℕ) (u o request : ℕ) (c : ℕ × ℕ) → Short b u o request c → (d : List ℕ) × ShortBy b d u o request c
+pub short-lent : (b : List ℕ) (u o request profile : ℕ) (c : ℕ × ℕ) → Short b u o request profile c → (d : List ℕ) × ShortBy b d u o request profile c
 unfolding ShortBy
-short-lent b u o request c short =
-    let l = lent b (λ n. (n, 0)) (Short b u o request) (short-tests b u o request) c short in
-    (l .directory, by-lent b (λ n. (n, 0)) (Short b u o request) (short-tests b u o request) c short l)
+short-lent b u o request profile c short =
+    let l = lent b (λ n. (n, 0)) (Short b u o request profile) (short-tests b u o request profile) c short in
+    (l .directory, by-lent b (λ n. (n, 0)) (Short b u o request profile) (short-tests b u o request profile) c short l)
 
-module _ (b : List ℕ) (u o request : ℕ) (a : ℕ × ℕ × ℕ × ℕ) (c : ℕ × ℕ) where
+module _ (b : List ℕ) (u o request profile : ℕ) (a : ℕ × ℕ × ℕ × ℕ) (c : ℕ × ℕ) where
   -- Both questions by the same directory.
-  pub questions-lent : Full b u o request a → Short b u o request c
-      → (d : List ℕ) × FullBy b d u o request a × ShortBy b d u o request c
+  pub questions-lent : Full b u o request profile a → Short b u o request profile c
+      → (d : List ℕ) × FullBy b d u o request profile a × ShortBy b d u o request profile c
   unfolding FullBy ShortBy
   questions-lent full short =
-      let l = lent b unreported (Full b u o request) (full-tests b u o request) a full in (
+      let l = lent b unreported (Full b u o request profile) (full-tests b u o request profile) a full in (
         l .directory,
-        by-lent b unreported (Full b u o request) (full-tests b u o request) a full l,
-        by-lent b (λ n. (n, 0)) (Short b u o request) (short-tests b u o request) c short l,
+        by-lent b unreported (Full b u o request profile) (full-tests b u o request profile) a full l,
+        by-lent b (λ n. (n, 0)) (Short b u o request profile) (short-tests b u o request profile) c short l,
       )
 
 -- ---- 13: an empty directory is no block's own

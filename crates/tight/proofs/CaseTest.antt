@@ -13,15 +13,16 @@ use Rattle.index.specs.Text.{textOf, setOf}
 use Rattle.index.proofs.laws.message.MessageTest.{passTest, sentTest, sent-test, lastOf}
 use Rattle.tight.specs.Examples.{Case, Shows}
 use Rattle.tight.proofs.BlockTest.{blockTest, block-test}
-use Rattle.tight.proofs.RightsTest.{rightsTest, Tested, rights-test, everywhereTest, everywhere-test}
+use Rattle.tight.proofs.RightsTest.{rightsTest, Tested, profiles-test, rights-test, everywhereTest, everywhere-test}
 use Rattle.tight.proofs.TextTest.{setTest, text-test, wrongTest, wrong-test, empty-text}
 use Rattle.tight.proofs.RefusedTest.{stopTest, refused-test}
 
 -- The test of a case. A message goes through the blocks ds, to its end or until it is refused.
 abbrev pub Test : Case → Type 0
-Test (Case.rights b u o mask i j) = Tested b u mask o i j
-Test (Case.everywhere b u mask) = everywhereTest b u mask ≡ true
-Test (Case.holds b u o mask) = rightsTest b u mask o ≡ true
+Test (Case.rights b u o mask i j) = Tested b u mask mask o i j
+Test (Case.profiles b u o mask in-strict i j) = Tested b u mask in-strict o i j
+Test (Case.everywhere b u mask in-strict) = everywhereTest b u mask in-strict ≡ true
+Test (Case.holds b u o mask in-strict) = rightsTest b u mask in-strict o ≡ true
 Test (Case.text b kind x t n) =
     (setTest b kind x ≡ true) × (textOf (setOf b (kindOf kind) x) ≡ t) × (length (setOf b (kindOf kind) x) ≡ n)
 Test (Case.wrong t place) = wrongTest t place ≡ true
@@ -39,8 +40,10 @@ malformed b m e wrong = let t = block-test b e in inr (t .0, inr (t .1, inl (wro
 -- Each test means what its case says.
 means : (c : Case) → Test c → Shows c
 means (Case.rights b u o mask i j) e = rights-test b u mask o i j e
-means (Case.everywhere b u mask) e = everywhere-test b u mask e
-means (Case.holds b u o mask) e = (_, _, rights-test b u mask o _ _ (e, refl, refl))
+means (Case.profiles b u o mask in-strict i j) e = profiles-test b u mask in-strict o i j e
+means (Case.everywhere b u mask in-strict) e = everywhere-test b u mask in-strict e
+means (Case.holds b u o mask in-strict) e =
+    let r = profiles-test b u mask in-strict o _ _ (e, refl, refl) in (_, _, r .0, r .1)
 means (Case.text b kind x t n) e = text-test b kind x t n (e .0) (e .1) (e .2)
 means (Case.wrong t place) e = wrong-test t place e
 means Case.empty e = empty-text

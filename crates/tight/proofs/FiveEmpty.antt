@@ -20,9 +20,10 @@ use Rattle.directory.specs.By.{directoryNeeds, makingNeeds, MakesDirectory, By,
 use Rattle.directory.proofs.DirectoryOf.{has-own}
 use Rattle.directory.proofs.Keeping.{Left, Valued}
 use Rattle.directory.proofs.KeptTrue.{sent-by-true}
+use Rattle.rights.specs.Profiles.{ordinary}
 use Rattle.rights.specs.Questions.{unreported, FullBy, ShortBy}
 use Rattle.tight.specs.Blocks.{zeros, absent, several, nothing, reads, give}
-use Rattle.tight.specs.Examples.{ring, twoRecords, twoText, lot, giveFour, withdrawFour, readers}
+use Rattle.tight.specs.Examples.{InEach, ring, twoRecords, twoText, lot, giveFour, withdrawFour, readers}
 use Rattle.tight.specs.Programs.{Program, Meets, RefusesEverything, AnswersTheSame, ChangesNothing, LeavesBehind, TakesAny, OnceForAll, LeavesHalfDone, OnlyTheFirst, Handed, MakesUpCounts}
 use Rattle.tight.proofs.Programs as does
 use Rattle.tight.proofs.ByDirectory.{sent-lent, left-good, read-lent, write-lent, full-lent, short-lent, questions-lent, not-lent, made-directory, not-made, fine-nothing, fine-one, two-owns, owned-nine}
@@ -77,20 +78,20 @@ written-by = write-lent twoRecords 2 7 (zeros 13) 0 13 twoText (texts-right .0 .
 read-by : (d : List ℕ) × (d′ : List ℕ) × ReadBy twoRecords d 2 7 twoText (0, 2, twoRecords, d′)
 read-by = read-lent twoRecords 2 7 twoText 0 2 twoRecords (texts-right .0 .1)
 
-asked-by : (d : List ℕ) × FullBy (reads 1) d 1 9 15 (0, 2, 0, 0) × ShortBy (reads 1) d 1 9 15 (0, 0)
-asked-by = questions-lent (reads 1) 1 9 15 (0, 2, 0, 0) (0, 0) held-by-one no-to-all
+asked-by : InEach (λ p. (d : List ℕ) × FullBy (reads 1) d 1 9 15 p (0, 2, 0, 0) × ShortBy (reads 1) d 1 9 15 p (0, 0))
+asked-by p is = questions-lent (reads 1) 1 9 15 p (0, 2, 0, 0) (0, 0) (held-by-one p is) (no-to-all p is)
 
-none-by : (d : List ℕ) × FullBy nothing d 1 9 15 (0, 0, 0, 0)
-none-by = full-lent nothing 1 9 15 (0, 0, 0, 0) held-by-none
+none-by : InEach (λ p. (d : List ℕ) × FullBy nothing d 1 9 15 p (0, 0, 0, 0))
+none-by p is = full-lent nothing 1 9 15 p (0, 0, 0, 0) (held-by-none p is)
 
-user-by : (d : List ℕ) × FullBy ring d 1 9 15 (0, 0, 20, 0)
-user-by = full-lent ring 1 9 15 (0, 0, 20, 0) (examined-right .0)
+user-by : InEach (λ p. (d : List ℕ) × FullBy ring d 1 9 15 p (0, 0, 20, 0))
+user-by p is = full-lent ring 1 9 15 p (0, 0, 20, 0) (examined-right .0 p is)
 
-object-by : (d : List ℕ) × FullBy ring d 9 1 15 (0, 0, 0, 20)
-object-by = full-lent ring 9 1 15 (0, 0, 0, 20) (examined-right .1 .0)
+object-by : InEach (λ p. (d : List ℕ) × FullBy ring d 9 1 15 p (0, 0, 0, 20))
+object-by p is = full-lent ring 9 1 15 p (0, 0, 0, 20) (examined-right .1 .0 p is)
 
-yes-by : (d : List ℕ) × ShortBy (reads 1) d 1 9 2 (0, 1)
-yes-by = short-lent (reads 1) 1 9 2 (0, 1) yes-to-one
+yes-by : InEach (λ p. (d : List ℕ) × ShortBy (reads 1) d 1 9 2 p (0, 1))
+yes-by p is = short-lent (reads 1) 1 9 2 p (0, 1) (yes-to-one p is)
 
 -- By the block's own directory a read is the read without it.
 read-owned : (b d : List ℕ) → Sized b × Good b → Own b d → (kind x : ℕ) (text : List ℕ) (o : ℕ × ℕ × List ℕ × List ℕ) → ReadBy b d kind x text o
@@ -138,8 +139,8 @@ module _ (p : Program) (meets : Meets p) where
   not-refusing (RefusesEverything.writes r) =
       omega (arith, rw (does.writes p meets (texts-right .0 .0 (zeros 13) (omega arith))) at (r twoRecords 2 7 (zeros 13)))
   not-refusing (RefusesEverything.reads r) = omega (arith, rw (does.reads p meets (texts-right .0 .1)) at (r twoRecords 2 7 twoText))
-  not-refusing (RefusesEverything.full r) = omega (arith, rw (does.answers p meets held-by-none) at (r nothing 1 9 15))
-  not-refusing (RefusesEverything.short r) = omega (arith, rw (does.says p meets yes-to-one) at (r (reads 1) 1 9 2))
+  not-refusing (RefusesEverything.full q is r) = omega (arith, rw (does.answers p meets (held-by-none q is)) at (r nothing 1 9 15))
+  not-refusing (RefusesEverything.short q is r) = omega (arith, rw (does.says p meets (yes-to-one q is)) at (r (reads 1) 1 9 2))
   not-refusing (RefusesEverything.directories r) =
       omega (arith, rw (does.makes-directory p meets (directory-made .1)) at (r nothing blank-directory))
   not-refusing (RefusesEverything.messages-by r) = accepted-by (plain give) first-given (r nothing _ give)
@@ -148,45 +149,45 @@ module _ (p : Program) (meets : Meets p) where
       omega (arith, rw (does.writes-by p meets (written-by .1)) at (r twoRecords (written-by .0) 2 7 (zeros 13)))
   not-refusing (RefusesEverything.reads-by r) =
       omega (arith, rw (does.reads-by p meets (read-by .2)) at (r twoRecords (read-by .0) 2 7 twoText))
-  not-refusing (RefusesEverything.full-by r) =
-      omega (arith, rw (does.answers-by p meets (asked-by .1)) at (r (reads 1) (asked-by .0) 1 9 15))
-  not-refusing (RefusesEverything.short-by r) =
-      omega (arith, rw (does.says-by p meets (asked-by .2)) at (r (reads 1) (asked-by .0) 1 9 15))
+  not-refusing (RefusesEverything.full-by q is r) =
+      omega (arith, rw (does.answers-by p meets (asked-by q is .1)) at (r (reads 1) (asked-by q is .0) 1 9 15))
+  not-refusing (RefusesEverything.short-by q is r) =
+      omega (arith, rw (does.says-by p meets (asked-by q is .2)) at (r (reads 1) (asked-by q is .0) 1 9 15))
 
   -- "One that grants the same mask always: demand 2's chains." The mask is 0 with no grant and 2 with one; the short answer on
   -- the same block is yes to reading and no to everything. M-109's numbers are 0 on the empty block and 20 on the ring.
   pub not-the-same : AnswersTheSame p → ⊥
-  not-the-same (AnswersTheSame.full mask same) =
-      let none = rw (does.answers p meets held-by-none) at (same nothing 1 9 15) in
-      let one = rw (does.answers p meets held-by-one) at (same (reads 1) 1 9 15) in
+  not-the-same (AnswersTheSame.full q mask is same) =
+      let none = rw (does.answers p meets (held-by-none q is)) at (same nothing 1 9 15) in
+      let one = rw (does.answers p meets (held-by-one q is)) at (same (reads 1) 1 9 15) in
       omega (arith, none refl, one refl)
-  not-the-same (AnswersTheSame.user n same) =
-      let none = rw (does.answers p meets held-by-none) at (same nothing 1 9 15) in
-      let some = rw (does.answers p meets (examined-right .0)) at (same ring 1 9 15) in
+  not-the-same (AnswersTheSame.user q n is same) =
+      let none = rw (does.answers p meets (held-by-none q is)) at (same nothing 1 9 15) in
+      let some = rw (does.answers p meets (examined-right .0 q is)) at (same ring 1 9 15) in
       omega (arith, none refl, some refl)
-  not-the-same (AnswersTheSame.object n same) =
-      let none = rw (does.answers p meets held-by-none) at (same nothing 1 9 15) in
-      let some = rw (does.answers p meets (examined-right .1 .0)) at (same ring 9 1 15) in
+  not-the-same (AnswersTheSame.object q n is same) =
+      let none = rw (does.answers p meets (held-by-none q is)) at (same nothing 1 9 15) in
+      let some = rw (does.answers p meets (examined-right .1 .0 q is)) at (same ring 9 1 15) in
       omega (arith, none refl, some refl)
-  not-the-same (AnswersTheSame.short answer same) =
-      let yes = rw (does.says p meets yes-to-one) at (same (reads 1) 1 9 2) in
-      let no = rw (does.says p meets no-to-all) at (same (reads 1) 1 9 15) in
+  not-the-same (AnswersTheSame.short q answer is same) =
+      let yes = rw (does.says p meets (yes-to-one q is)) at (same (reads 1) 1 9 2) in
+      let no = rw (does.says p meets (no-to-all q is)) at (same (reads 1) 1 9 15) in
       omega (arith, yes refl, no refl)
-  not-the-same (AnswersTheSame.full-by mask same) =
-      let none = rw (does.answers-by p meets (none-by .1)) at (same nothing (none-by .0) 1 9 15) in
-      let one = rw (does.answers-by p meets (asked-by .1)) at (same (reads 1) (asked-by .0) 1 9 15) in
+  not-the-same (AnswersTheSame.full-by q mask is same) =
+      let none = rw (does.answers-by p meets (none-by q is .1)) at (same nothing (none-by q is .0) 1 9 15) in
+      let one = rw (does.answers-by p meets (asked-by q is .1)) at (same (reads 1) (asked-by q is .0) 1 9 15) in
       omega (arith, none refl, one refl)
-  not-the-same (AnswersTheSame.user-by n same) =
-      let none = rw (does.answers-by p meets (none-by .1)) at (same nothing (none-by .0) 1 9 15) in
-      let some = rw (does.answers-by p meets (user-by .1)) at (same ring (user-by .0) 1 9 15) in
+  not-the-same (AnswersTheSame.user-by q n is same) =
+      let none = rw (does.answers-by p meets (none-by q is .1)) at (same nothing (none-by q is .0) 1 9 15) in
+      let some = rw (does.answers-by p meets (user-by q is .1)) at (same ring (user-by q is .0) 1 9 15) in
       omega (arith, none refl, some refl)
-  not-the-same (AnswersTheSame.object-by n same) =
-      let none = rw (does.answers-by p meets (none-by .1)) at (same nothing (none-by .0) 1 9 15) in
-      let some = rw (does.answers-by p meets (object-by .1)) at (same ring (object-by .0) 9 1 15) in
+  not-the-same (AnswersTheSame.object-by q n is same) =
+      let none = rw (does.answers-by p meets (none-by q is .1)) at (same nothing (none-by q is .0) 1 9 15) in
+      let some = rw (does.answers-by p meets (object-by q is .1)) at (same ring (object-by q is .0) 9 1 15) in
       omega (arith, none refl, some refl)
-  not-the-same (AnswersTheSame.short-by answer same) =
-      let yes = rw (does.says-by p meets (yes-by .1)) at (same (reads 1) (yes-by .0) 1 9 2) in
-      let no = rw (does.says-by p meets (asked-by .2)) at (same (reads 1) (asked-by .0) 1 9 15) in
+  not-the-same (AnswersTheSame.short-by q answer is same) =
+      let yes = rw (does.says-by p meets (yes-by q is .1)) at (same (reads 1) (yes-by q is .0) 1 9 2) in
+      let no = rw (does.says-by p meets (asked-by q is .2)) at (same (reads 1) (asked-by q is .0) 1 9 15) in
       omega (arith, yes refl, no refl)
 
   -- "One whose messages change nothing, and one that works at the first message and then only says accepted: demand 2's
@@ -251,9 +252,9 @@ module _ (p : Program) (meets : Meets p) where
   not-any (TakesAny.reads never) =
       never nothing [] 2 9 [] (ap (λ (o : ℕ × ℕ × List ℕ × List ℕ). o .0) (does.reads-by p meets (not-lent nothing fine-nothing (λ n. (n, 0, nothing, [])) _)))
   not-any (TakesAny.full never) =
-      never nothing [] 1 9 15 (ap (λ (o : ℕ × ℕ × ℕ × ℕ). o .0) (does.answers-by p meets (not-lent nothing fine-nothing unreported _)))
+      never nothing [] 1 9 15 ordinary (ap (λ (o : ℕ × ℕ × ℕ × ℕ). o .0) (does.answers-by p meets (not-lent nothing fine-nothing unreported _)))
   not-any (TakesAny.short never) =
-      never nothing [] 1 9 15 (ap (λ (o : ℕ × ℕ). o .0) (does.says-by p meets (not-lent nothing fine-nothing (λ n. (n, 0)) _)))
+      never nothing [] 1 9 15 ordinary (ap (λ (o : ℕ × ℕ). o .0) (does.says-by p meets (not-lent nothing fine-nothing (λ n. (n, 0)) _)))
 
   -- M-100: giveFour leaves four records in a block that had none.
   pub not-once-for-all : OnceForAll p → ⊥

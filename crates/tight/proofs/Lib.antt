@@ -1,6 +1,7 @@
 -- The theorems.
 pub mod FiveEmpty
 pub mod Marked
+pub mod Profiled
 pub mod Demand3
 pub mod Mill
 pub mod Mixed

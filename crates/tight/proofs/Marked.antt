@@ -11,13 +11,12 @@ use Rattle.index.specs.Letters.{markerX, mayHave}
 use Rattle.index.specs.Block.{number, countAt, countFrom, count}
 use Rattle.index.specs.Wide.Sent.{wide}
 use Rattle.index.specs.Calls.{Sends}
-use Rattle.index.proofs.laws.Firsts.{first-all}
 use Rattle.index.proofs.laws.Tests.{all, all-at}
-use Rattle.index.proofs.laws.block.Masks.{in-zero, in-all}
-use Rattle.rights.specs.Questions.{questionNeeds, Limited, HoldsAll, Full, Short}
-use Rattle.rights.proofs.laws.questions.OneAnswer.{accepted-full}
+use Rattle.index.proofs.laws.block.Masks.{in-zero}
+use Rattle.rights.specs.Questions.{Full, Short}
+use Rattle.rights.proofs.laws.questions.ShortAgrees.{short-yes, short-no}
 use Rattle.tight.specs.Blocks.{once, block, nothing}
-use Rattle.tight.specs.Examples.{member, giveX, giveWideX}
+use Rattle.tight.specs.Examples.{InEach, member, giveX, giveWideX}
 use Rattle.tight.specs.Programs.{Program, Meets, SameLetters, IgnoresMarkers, KeepsMarkers}
 use Rattle.tight.proofs.Mill.{x-given}
 use Rattle.tight.proofs.Starred.{wides-right}
@@ -28,11 +27,11 @@ use Rattle.tight.proofs.RightsTest.{rights-test}
 abbrev firm : ℕ → List ℕ
 firm mask = block (once 1 10 mask ∷ once 32 20 15 ∷ []) (once 0 1 15 ∷ []) [] 0
 
-shut : Full (firm 271) 1 32 15 (0, 0, 1, 1)
+shut : InEach (λ p. Full (firm 271) 1 32 15 p (0, 0, 1, 1))
 unfolding number countAt mayHave
 shut = rights-test (firm 271) 1 0 32 1 1 (refl, refl, refl)
 
-unbound : Full (firm 15) 1 32 15 (0, 15, 1, 1)
+unbound : InEach (λ p. Full (firm 15) 1 32 15 p (0, 15, 1, 1))
 unfolding number countAt mayHave
 unbound = rights-test (firm 15) 1 15 32 1 1 (refl, refl, refl)
 
@@ -54,31 +53,23 @@ same-letters Permission x y k l = rw (same-at 2 (three .2) k l)
 same-letters Filter x y k l = refl
 
 -- The short question for all four rights, on both.
-no-answer : Short (firm 271) 1 32 15 (0, 0)
-unfolding Short Limited HoldsAll
-no-answer =
-    let q = accepted-full (firm 271) 1 32 15 0 1 1 shut in
-    first-all _ _ (0, 0) (questionNeeds (firm 271) 1 32 15) (q .0)
-    (refl, omega arith, ((λ e. absurd (omega arith)), (λ all. absurd (in-zero 0 (q .1 .1 .1 0 (omega arith) .1 (all 0 (omega arith) refl, refl))))))
+no-answer : InEach (λ p. Short (firm 271) 1 32 15 p (0, 0))
+no-answer p is = short-no (firm 271) 1 32 15 p 0 1 1 (shut p is) 15 (omega arith) (omega arith) 0 (omega arith) refl refl (in-zero 0)
 
-yes-answer : Short (firm 15) 1 32 15 (0, 1)
-unfolding Short Limited HoldsAll
-yes-answer =
-    let q = accepted-full (firm 15) 1 32 15 15 1 1 unbound in
-    first-all _ _ (0, 1) (questionNeeds (firm 15) 1 32 15) (q .0)
-    (refl, omega arith, ((λ e k l i. q .1 .1 .1 k l .0 (in-all k l) .0), (λ all. refl)))
+yes-answer : InEach (λ p. Short (firm 15) 1 32 15 p (0, 1))
+yes-answer p is = short-yes (firm 15) 1 32 15 p 15 1 1 (unbound p is) 15 (omega arith) (omega arith) (λ k h i. i)
 
 wide-x : Sends nothing (wide giveWideX) (0, member 1 1 0)
 wide-x = wides-right .1 .1 .1 .1 .1 .1 .1 .1 .0
 
 module _ (p : Program) (meets : Meets p) where
   pub heeds-markers : IgnoresMarkers p → ⊥
-  heeds-markers (IgnoresMarkers.full same) =
+  heeds-markers (IgnoresMarkers.full q is same) =
       let e = same (firm 271) (firm 15) same-letters 1 32 15 in
-      omega (arith, ap (λ (a : ℕ × ℕ × ℕ × ℕ). a .1) (answers p meets shut), ap (λ (a : ℕ × ℕ × ℕ × ℕ). a .1) (answers p meets unbound))
-  heeds-markers (IgnoresMarkers.short same) =
+      omega (arith, ap (λ (a : ℕ × ℕ × ℕ × ℕ). a .1) (answers p meets (shut q is)), ap (λ (a : ℕ × ℕ × ℕ × ℕ). a .1) (answers p meets (unbound q is)))
+  heeds-markers (IgnoresMarkers.short q is same) =
       let e = same (firm 271) (firm 15) same-letters 1 32 15 in
-      omega (arith, ap (λ (a : ℕ × ℕ). a .1) (says p meets no-answer), ap (λ (a : ℕ × ℕ). a .1) (says p meets yes-answer))
+      omega (arith, ap (λ (a : ℕ × ℕ). a .1) (says p meets (no-answer q is)), ap (λ (a : ℕ × ℕ). a .1) (says p meets (yes-answer q is)))
 
   pub takes-markers : KeepsMarkers p → ⊥
   unfolding number countAt countFrom count

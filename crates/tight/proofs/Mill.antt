@@ -18,12 +18,13 @@ use Rattle.index.specs.History.History.{accepted}
 use Rattle.index.proofs.laws.Firsts.{All, first-all}
 use Rattle.index.proofs.laws.block.GoodTest.{good-test}
 use Rattle.index.proofs.laws.block.Masks.{four}
-use Rattle.rights.specs.Held.{Holds}
-use Rattle.rights.specs.Questions.{questionNeeds, Limited, HoldsAll, Full, Short}
+use Rattle.rights.specs.Profiles.{HoldsIn, IsProfile, profileOf}
+use Rattle.rights.specs.Questions.{Limited, Full, Short}
 use Rattle.tight.specs.Blocks.{giving, withdrawing, nothing, reads, give, withdraw}
-use Rattle.tight.specs.Examples.{member, giveX, fromXtoN}
+use Rattle.tight.specs.Examples.{InEach, member, giveX, fromXtoN}
 use Rattle.tight.specs.Programs.{Program, Meets, run}
 use Rattle.rights.proofs.laws.questions.OneAnswer.{accepted-full}
+use Rattle.rights.proofs.laws.questions.ShortAgrees.{short-yes, short-no}
 use Rattle.tight.proofs.Programs.{runs, answers}
 use Rattle.tight.proofs.Starred.{appointments-right, markers-right}
 use Rattle.tight.proofs.Demand3.{first-half, second-half}
@@ -48,13 +49,13 @@ second-given = appointments-right .1 .0
 one-withdrawn : Message (reads 2) withdraw (0, reads 1)
 one-withdrawn = appointments-right .1 .1 .0
 
-pub held-by-one : Full (reads 1) 1 9 15 (0, 2, 0, 0)
+pub held-by-one : InEach (λ p. Full (reads 1) 1 9 15 p (0, 2, 0, 0))
 held-by-one = appointments-right .1 .1 .1 .0
 
 both-withdrawn : Message (reads 1) withdraw (0, nothing)
 both-withdrawn = appointments-right .1 .1 .1 .1 .0
 
-pub held-by-none : Full nothing 1 9 15 (0, 0, 0, 0)
+pub held-by-none : InEach (λ p. Full nothing 1 9 15 p (0, 0, 0, 0))
 held-by-none = appointments-right .1 .1 .1 .1 .1 .0
 
 -- ---- the right stands while one appointment does
@@ -65,36 +66,24 @@ one-ended = next first-given (next second-given (next one-withdrawn Accepted.not
 both-ended : Accepted nothing (plain give ∷ plain give ∷ plain withdraw ∷ plain withdraw ∷ []) nothing
 both-ended = next first-given (next second-given (next one-withdrawn (next both-withdrawn Accepted.nothing)))
 
--- "a right she had never lost": user 1 holds right 1, to read, on 9.
-pub never-lost : Holds (reads 1) 1 9 1
+-- "a right she had never lost": user 1 holds right 1, to read, on 9, in each profile.
+pub never-lost : (p : ℕ) → IsProfile p → HoldsIn (profileOf p) (reads 1) 1 9 1
 unfolding Limited
-never-lost = accepted-full (reads 1) 1 9 15 2 0 0 held-by-one .1 .1 .1 1 (omega arith) .0 refl .0
+never-lost p is = accepted-full (reads 1) 1 9 15 p 2 0 0 (held-by-one p is) .1 .1 .1 1 (omega arith) .0 refl .0
 
 -- The short question, on the same block: yes to reading, no to all four rights.
-question-holds : (request : ℕ) → 1 ≤ request → request ≤ 15 → All (questionNeeds (reads 1) 1 9 request)
-unfolding questionNeeds blockNeeds
-question-holds request l h =
-    let q = accepted-full (reads 1) 1 9 15 2 0 0 held-by-one .0 in (q .0, (q .1 .0, (q .1 .1 .0, ((l, h), tt))))
+pub yes-to-one : InEach (λ p. Short (reads 1) 1 9 2 p (0, 1))
+yes-to-one p is = short-yes (reads 1) 1 9 15 p 2 0 0 (held-by-one p is) 2 (omega arith) (omega arith) (λ k h i. i)
 
-pub yes-to-one : Short (reads 1) 1 9 2 (0, 1)
-unfolding Short HoldsAll
-yes-to-one =
-    let all = four (λ k. In k 2 → Holds (reads 1) 1 9 k) (λ i. absurd (omega arith)) (λ i. never-lost) (λ i. absurd (omega arith)) (λ i. absurd (omega arith)) in
-    first-all _ _ (0, 1) (questionNeeds (reads 1) 1 9 2) (question-holds 2 (omega arith) (omega arith))
-    (refl, omega arith, ((λ e. all), (λ h. refl)))
-
-pub no-to-all : Short (reads 1) 1 9 15 (0, 0)
-unfolding Short Limited HoldsAll
-no-to-all =
-    let no : HoldsAll (reads 1) 1 9 15 → ⊥ =
-    λ all. omega (arith, accepted-full (reads 1) 1 9 15 2 0 0 held-by-one .1 .1 .1 0 (omega arith) .1 (all 0 (omega arith) refl, refl)) in
-    first-all _ _ (0, 0) (questionNeeds (reads 1) 1 9 15) (question-holds 15 (omega arith) (omega arith))
-    (refl, omega arith, ((λ e. absurd (omega arith)), (λ h. absurd (no h))))
+pub no-to-all : InEach (λ p. Short (reads 1) 1 9 15 p (0, 0))
+no-to-all p is =
+    short-no (reads 1) 1 9 15 p 2 0 0 (held-by-one p is) 15 (omega arith) (omega arith) 0 (omega arith) refl refl (λ i. omega arith)
 
 -- Whatever program meets the promises answers so.
 pub still-answered : (p : Program) → Meets p
-    → p .rights (run p nothing (plain give ∷ plain give ∷ plain withdraw ∷ [])) 1 9 15 ≡ (0, 2, 0, 0)
-still-answered p meets = rw (runs p meets (plain give ∷ plain give ∷ plain withdraw ∷ []) one-ended) (answers p meets held-by-one)
+    → InEach (λ profile. p .rights (run p nothing (plain give ∷ plain give ∷ plain withdraw ∷ [])) 1 9 15 profile ≡ (0, 2, 0, 0))
+still-answered p meets profile is =
+    rw (runs p meets (plain give ∷ plain give ∷ plain withdraw ∷ []) one-ended) (answers p meets (held-by-one profile is))
 
 -- In every order in which the four messages are accepted, the block is empty again.
 pub both-gone : (ms : List Sent) (b : List ℕ) → List·Permᴰ ms (plain give ∷ plain give ∷ plain withdraw ∷ plain withdraw ∷ []) → Accepted nothing ms b

@@ -21,6 +21,7 @@ use Rattle.appointments.specs.Days.{Event, Last, Starts, standingThen, Mixed, C
 use Rattle.appointments.specs.Days.Event.{message, move}
 use Rattle.appointments.proofs.laws.SecondHalf.{second-half}
 use Rattle.appointments.proofs.laws.NeverSix.{never-six}
+use Rattle.tight.specs.Examples.{InEach}
 use Rattle.tight.specs.Blocks.{block, giving}
 use Rattle.tight.specs.Appointed.{both, thursday, friday, summer, member, without}
 use Rattle.tight.specs.DayPrograms.{DayProgram, DayMeets}
@@ -76,9 +77,15 @@ pub none-left : count without Membership 1 2 1 ≡ 0
 unfolding standingThen number listSize appointmentAt appointmentsFrom appointments standsOn those standing stands between anniversary inMonth dayNumber yearsDays months monthDays sum leapDay kindIn flags present markers maskWith halfAt halves kindOf kindNumber left others after moves movesOf tally
 none-left = second-half both empty empty without _ stated (Last.ended summer) made until-summer Membership 1 2 1 (omega arith)
 
--- "a right she had never lost": whatever program meets the promises moves overnight to a block on which she may read the order.
-pub never-lost : (p : DayProgram) → DayMeets p → p .base .rights (p .move (member 2) both thursday friday .1) 1 9 15 .1 ≡ 2
-never-lost p meets = rw (moves-to p meets (story-right .1 .1 .1 .1 .1 .1 .0), answers (p .base) (meets .base) (story-right .1 .1 .1 .1 .1 .1 .1 .0 .2))
+-- "a right she had never lost": whatever program meets the promises moves overnight to a block on which she may read the order, in
+-- each profile.
+pub never-lost : (p : DayProgram) → DayMeets p
+    → InEach (λ profile. p .base .rights (p .move (member 2) both thursday friday .1) 1 9 15 profile .1 ≡ 2)
+never-lost p meets profile is =
+    rw (
+      moves-to p meets (story-right .1 .1 .1 .1 .1 .1 .0),
+      answers (p .base) (meets .base) (story-right .1 .1 .1 .1 .1 .1 .1 .0 profile is .2),
+    )
 
 -- From Friday on no move is refused with 6, whatever the day.
 pub no-six : (new : ℕ) (b : List ℕ) → Moved (member 1) both friday new (6, b) → ⊥

@@ -1,8 +1,8 @@
--- Each number that 01, M-100 or M-106 gives to a call is given for some input.
+-- Each number that 01, M-100, M-106 or M-112 gives to a call is given for some input.
 use Prim.Native.Nat.{ℕ, _-_, _<_}
 use mathlib.Core.Path.{_≡_, refl}
 use mathlib.Core.List.{List, [], _∷_, _++_}
-use mathlib.Core.Logic.{inl, inr}
+use mathlib.Core.Logic.{inl, inr, ⊎-elim}
 use native.Mathlib.Omega.{arith}
 use lib.ListN.{replicate, length-replicate}
 use Rattle.index.specs.declared.Kind.the-variants.{Permission}
@@ -20,6 +20,7 @@ use Rattle.index.proofs.laws.text.SetReader.{parse-sound}
 use Rattle.index.proofs.laws.block.GoodTest.{good-test}
 use Rattle.directory.specs.Directory.{directoryLength}
 use Rattle.directory.specs.By.{makingNeeds, MakesDirectory, KeptBy, SendsBy, ReadBy, WriteBy}
+use Rattle.rights.specs.Profiles.{ordinary, IsProfile}
 use Rattle.rights.specs.Questions.{questionNeeds, unreported, Full, Short, FullBy, ShortBy}
 use Rattle.tight.specs.Blocks.{zeros, giving, absent, several, nothing, reads, give, withdraw}
 use Rattle.tight.specs.Examples.{twoRecords, giveFour, withdrawFour}
@@ -61,17 +62,17 @@ module _ (b : List ℕ) (r : ℕ) (above : 0 < r) where
     (b, kind, x, [], (0, b), refuses _ _ (setNeeds b kind x) not-zero a),
   )
 
-  questions-give : (u o request : ℕ) → Answers (questionNeeds b u o request) r → QuestionsGive r
+  questions-give : (u o request profile : ℕ) → Answers (questionNeeds b u o request profile) r → QuestionsGive r
   unfolding Full Short
-  questions-give u o request a =
-      let ts = questionNeeds b u o request in
-      (b, u, o, request, (0, 0, 0), 0, refuses _ _ ts not-zero a, refuses _ _ ts not-zero a)
+  questions-give u o request profile a =
+      let ts = questionNeeds b u o request profile in
+      (b, u, o, request, profile, (0, 0, 0), 0, refuses _ _ ts not-zero a, refuses _ _ ts not-zero a)
 
   calls-give : Answers (blockNeeds b) r → AllGive r
   unfolding sentNeeds setNeeds questionNeeds listNeeds
   calls-give a =
       let bs = blockNeeds b in
-      ((λ form. sent-gives form [] (first bs _ a)), sets-give 1 0 (first bs _ a), questions-give 0 0 1 (first bs _ a), list-gives [] (first bs _ a))
+      ((λ form. sent-gives form [] (first bs _ a)), sets-give 1 0 (first bs _ a), questions-give 0 0 1 ordinary (first bs _ a), list-gives [] (first bs _ a))
 
 -- ---- the block: one of no bytes, and one whose header is all zero
 
@@ -104,13 +105,25 @@ no-key =
 -- User nameCount, and request 0.
 no-user : QuestionsGive 4
 unfolding questionNeeds
-no-user = questions-give nothing 4 (omega arith) nameCount 9 15 (past-block _ 4 (inl ((λ n. omega (arith, n .0)), refl)))
+no-user = questions-give nothing 4 (omega arith) nameCount 9 15 ordinary (past-block _ 4 (inl ((λ n. omega (arith, n .0)), refl)))
 
 no-request : QuestionsGive 5
 unfolding questionNeeds
 no-request =
-    questions-give nothing 5 (omega arith) 1 9 0
+    questions-give nothing 5 (omega arith) 1 9 0 ordinary
     (past-block _ 5 (inr ((omega arith, omega arith), inl ((λ n. omega (arith, n .0)), refl))))
+
+-- The number 2 is no profile.
+fifteen : Answers (questionNeeds nothing 1 9 15 2) 15
+unfolding questionNeeds IsProfile
+fifteen =
+    past-block _ 15
+    (inr ((omega arith, omega arith), inr ((omega arith, omega arith), inl ((λ p. ⊎-elim (λ e. omega arith) (λ e. omega arith) p), refl))))
+
+no-profile : Full nothing 1 9 15 2 (unreported 15) × Short nothing 1 9 15 2 (15, 0)
+unfolding Full Short
+no-profile =
+    (refuses _ _ (questionNeeds nothing 1 9 15 2) (λ z. omega arith) fifteen, refuses _ _ (questionNeeds nothing 1 9 15 2) (λ z. omega arith) fifteen)
 
 -- ---- a message, plain or wide, to that block
 
@@ -313,8 +326,15 @@ read-numbers =
     and tt
 
 pub question-numbers : Each QuestionsGive questionNumbers
+unfolding IsProfile
 question-numbers =
-    (reads 1, 1, 9, 15, (2, 0, 0), 0, held-by-one, no-to-all) and no-bytes .2 and no-header .2 and no-user and no-request and tt
+    (reads 1, 1, 9, 15, ordinary, (2, 0, 0), 0, held-by-one ordinary (inl refl), no-to-all ordinary (inl refl))
+    and no-bytes .2
+    and no-header .2
+    and no-user
+    and no-request
+    and (nothing, 1, 9, 15, 2, (0, 0, 0), 0, no-profile .0, no-profile .1)
+    and tt
 
 -- ---- M-106: by a directory, each number of the call without it, and 13
 
@@ -373,12 +393,12 @@ read-by-numbers =
     and each-by ReadGives ReadByGives read-by-gives readNumbers read-numbers
 
 questions-by-give : (n : ℕ) → QuestionsGive n → QuestionsByGive n
-questions-by-give n (b, u, o, request, values, answer, full, short) =
-    let k = questions-lent b u o request (n, values .0, values .1, values .2) (n, answer) full short in
-    (b, k .0, u, o, request, values, answer, k .1, k .2)
+questions-by-give n (b, u, o, request, profile, values, answer, full, short) =
+    let k = questions-lent b u o request profile (n, values .0, values .1, values .2) (n, answer) full short in
+    (b, k .0, u, o, request, profile, values, answer, k .1, k .2)
 
 pub question-by-numbers : Each QuestionsByGive (byDirectory questionNumbers)
 unfolding FullBy ShortBy
 question-by-numbers =
-    (nothing, [], 1, 9, 15, (0, 0, 0), 0, not-lent nothing fine-nothing unreported _, not-lent nothing fine-nothing (λ n. (n, 0)) _)
+    (nothing, [], 1, 9, 15, ordinary, (0, 0, 0), 0, not-lent nothing fine-nothing unreported _, not-lent nothing fine-nothing (λ n. (n, 0)) _)
     and each-by QuestionsGive QuestionsByGive questions-by-give questionNumbers question-numbers

@@ -31,11 +31,11 @@ module _ (p : Program) (meets : Meets p) where
   pub reads : {b : List ℕ} {kind x : ℕ} {text : List ℕ} {o : ℕ × ℕ × List ℕ} → ReadsSet b kind x text o → p .read b kind x text ≡ o
   reads {b} {kind} {x} {text} {o} h = one-read b kind x text (p .read b kind x text) o (meets .read b kind x text) h
 
-  pub answers : {b : List ℕ} {u o request : ℕ} {a : ℕ × ℕ × ℕ × ℕ} → Full b u o request a → p .rights b u o request ≡ a
-  answers {b} {u} {o} {request} {a} h = one-full b u o request (p .rights b u o request) a (meets .rights b u o request) h
+  pub answers : {b : List ℕ} {u o request profile : ℕ} {a : ℕ × ℕ × ℕ × ℕ} → Full b u o request profile a → p .rights b u o request profile ≡ a
+  answers {b} {u} {o} {request} {profile} {a} h = one-full b u o request profile (p .rights b u o request profile) a (meets .rights b u o request profile) h
 
-  pub says : {b : List ℕ} {u o request : ℕ} {a : ℕ × ℕ} → Short b u o request a → p .may b u o request ≡ a
-  says {b} {u} {o} {request} {a} h = one-short b u o request (p .may b u o request) a (meets .may b u o request) h
+  pub says : {b : List ℕ} {u o request profile : ℕ} {a : ℕ × ℕ} → Short b u o request profile a → p .may b u o request profile ≡ a
+  says {b} {u} {o} {request} {profile} {a} h = one-short b u o request profile (p .may b u o request profile) a (meets .may b u o request profile) h
 
   -- ---- each call by a directory
 
@@ -53,12 +53,12 @@ module _ (p : Program) (meets : Meets p) where
       → p .read-by b d kind x text ≡ o
   reads-by {b} {d} {kind} {x} {text} {o} h = one-read-by b d kind x text (p .read-by b d kind x text) o (meets .read-by b d kind x text) h
 
-  pub answers-by : {b d : List ℕ} {u o request : ℕ} {a : ℕ × ℕ × ℕ × ℕ} → FullBy b d u o request a → p .rights-by b d u o request ≡ a
-  answers-by {b} {d} {u} {o} {request} {a} h =
-      one-full-by b u o request d (p .rights-by b d u o request) a (meets .rights-by b d u o request) h
+  pub answers-by : {b d : List ℕ} {u o request profile : ℕ} {a : ℕ × ℕ × ℕ × ℕ} → FullBy b d u o request profile a → p .rights-by b d u o request profile ≡ a
+  answers-by {b} {d} {u} {o} {request} {profile} {a} h =
+      one-full-by b u o request profile d (p .rights-by b d u o request profile) a (meets .rights-by b d u o request profile) h
 
-  pub says-by : {b d : List ℕ} {u o request : ℕ} {a : ℕ × ℕ} → ShortBy b d u o request a → p .may-by b d u o request ≡ a
-  says-by {b} {d} {u} {o} {request} {a} h = one-short-by b u o request d (p .may-by b d u o request) a (meets .may-by b d u o request) h
+  pub says-by : {b d : List ℕ} {u o request profile : ℕ} {a : ℕ × ℕ} → ShortBy b d u o request profile a → p .may-by b d u o request profile ≡ a
+  says-by {b} {d} {u} {o} {request} {profile} {a} h = one-short-by b u o request profile d (p .may-by b d u o request profile) a (meets .may-by b d u o request profile) h
 
   -- ---- messages one after the other
 

@@ -13,7 +13,7 @@ use Rattle.index.specs.Wide.{listLength, maskIn, listOffset, namesFrom, names, 
 use Rattle.index.specs.Text.{digitsOf, decimal, pieceOf, piecesOf, entryText, textOf, countsFrom, countsAt, setFrom, setOf}
 use Rattle.index.specs.work.Reading.{digit, reaches, readDigits, readNumber, readCount, readLetter, readCounts, readMark, readRecord, readMore, readRecords, parse}
 use Rattle.tight.specs.Blocks.{twos, once, block, takesX, giving, absent, several, nothing, reads, give}
-use Rattle.tight.specs.Examples.{Case, Shows, granted, masks, texts, places, chains, examined, appointments, limits, member, markers, firms, lot, four, giveFour, reader, readers, wides, cases}
+use Rattle.tight.specs.Examples.{Case, Shows, granted, masks, texts, places, chains, examined, appointments, limits, member, markers, firms, denials, deniedEverywhere, lot, four, giveFour, reader, readers, wides, cases}
 use Rattle.index.proofs.laws.message.Halves.{differ}
 use Rattle.tight.proofs.CaseTest.{all-mean}
 
@@ -102,6 +102,36 @@ markers-right =
     and refl
     and refl
     and tt)
+
+-- M-112: the denials.
+pub denials-right : Each Shows denials
+unfolding number countAt mayHave
+denials-right =
+    all-mean denials
+    ((refl, refl, refl)
+    and (refl, refl, refl)
+    and (refl, refl, refl)
+    and (refl, refl, refl)
+    and (refl, refl, refl)
+    and (refl, refl, refl)
+    and (refl, refl, refl)
+    and (refl, refl, refl)
+    and (refl, refl, refl)
+    and (refl, refl, refl)
+    and (refl, refl, refl)
+    and (refl, refl, refl)
+    and (refl, refl, refl)
+    and (refl, refl, refl)
+    and (refl, refl, refl)
+    and (refl, refl, refl)
+    and (refl, refl, refl)
+    and (refl, refl, refl)
+    and (refl, refl, refl)
+    and tt)
+
+denied-everywhere-right : Each Shows deniedEverywhere
+unfolding number countAt mayHave
+denied-everywhere-right = all-mean deniedEverywhere (refl and tt)
 
 pub firms-right : Each Shows firms
 unfolding number countAt mayHave
@@ -240,5 +270,5 @@ table =
     (after chains chains-right
     (after examined examined-right
     (after appointments appointments-right
-    (after limits limits-right (after markers markers-right (after firms firms-right (wides, wides-right)))))))))
+    (after limits limits-right (after markers markers-right (after firms firms-right (after denials denials-right (after deniedEverywhere denied-everywhere-right (wides, wides-right)))))))))))
     .1

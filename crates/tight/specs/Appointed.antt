@@ -7,6 +7,7 @@ use Rattle.calendar.specs.Dates.{date}
 use Rattle.calendar.specs.Calls.{noDate, DayOf, DateOf, AnniversaryOf}
 use Rattle.appointments.specs.Moves.{Moved}
 use Rattle.appointments.specs.Asking.{Stands, NextChange}
+use Rattle.rights.specs.Profiles.{IsProfile}
 use Rattle.rights.specs.Questions.{Full}
 use Rattle.tight.specs.Blocks.{two, Row, once, block, zeros}
 
@@ -29,7 +30,7 @@ pub data Case : Type 0 where
   moved : (block list : List ℕ) (old new : ℕ) (after : List ℕ) → Case
   -- it is refused with the number, and the block is as it was
   refused : (block list : List ℕ) (old new number : ℕ) → Case
-  -- on the block, the user holds these rights on the object
+  -- on the block, the user holds these rights on the object, in each profile
   holds : (block : List ℕ) (user object mask : ℕ) → Case
 
 abbrev pub Shows : Case → Type 0
@@ -42,7 +43,7 @@ Shows (Case.stands l n answer) = Stands l n (0, answer)
 Shows (Case.next l n m) = NextChange l n (0, m)
 Shows (Case.moved b l old new b′) = Moved b l old new (0, b′)
 Shows (Case.refused b l old new n) = Moved b l old new (n, b)
-Shows (Case.holds b u o mask) = (i : ℕ) × (j : ℕ) × Full b u o allRights (0, mask, i, j)
+Shows (Case.holds b u o mask) = (p : ℕ) → IsProfile p → (i : ℕ) × (j : ℕ) × Full b u o allRights p (0, mask, i, j)
 
 -- The bytes of an appointment: key, id, mask, marker, the first date, the term, and the last byte, which is to be zero.
 abbrev pub ending : ℕ → ℕ → ℕ → ℕ → ℕ → Date → ℕ → List ℕ

@@ -1,4 +1,4 @@
--- 01, "Numbers a caller can get", M-100, M-105 and M-106: which calls give which numbers. A call gives a number when it does so for some input.
+-- 01, "Numbers a caller can get", M-100, M-105, M-106 and M-112: which calls give which numbers. A call gives a number when it does so for some input.
 use Prim.Native.Nat.{ℕ}
 use mathlib.Core.List.{List, [], _∷_}
 use Rattle.index.specs.Wide.{Sent}
@@ -32,8 +32,8 @@ ReadGives n =
 -- The two questions, with the same input.
 abbrev pub QuestionsGive : ℕ → Type 0
 QuestionsGive n =
-    (b : List ℕ) × (u : ℕ) × (o : ℕ) × (request : ℕ) × (values : ℕ × ℕ × ℕ) × (answer : ℕ)
-    × Full b u o request (n, values .0, values .1, values .2) × Short b u o request (n, answer)
+    (b : List ℕ) × (u : ℕ) × (o : ℕ) × (request : ℕ) × (profile : ℕ) × (values : ℕ × ℕ × ℕ) × (answer : ℕ)
+    × Full b u o request profile (n, values .0, values .1, values .2) × Short b u o request profile (n, answer)
 
 -- ---- M-106: the calls by a directory
 
@@ -55,8 +55,8 @@ ReadByGives n =
 
 abbrev pub QuestionsByGive : ℕ → Type 0
 QuestionsByGive n =
-    (b : List ℕ) × (d : List ℕ) × (u : ℕ) × (o : ℕ) × (request : ℕ) × (values : ℕ × ℕ × ℕ) × (answer : ℕ)
-    × FullBy b d u o request (n, values .0, values .1, values .2) × ShortBy b d u o request (n, answer)
+    (b : List ℕ) × (d : List ℕ) × (u : ℕ) × (o : ℕ) × (request : ℕ) × (profile : ℕ) × (values : ℕ × ℕ × ℕ) × (answer : ℕ)
+    × FullBy b d u o request profile (n, values .0, values .1, values .2) × ShortBy b d u o request profile (n, answer)
 
 -- ---- M-105: days, dates, terms and appointments
 
@@ -93,8 +93,9 @@ writeNumbers = 0 ∷ 1 ∷ 2 ∷ 3 ∷ 4 ∷ 10 ∷ []
 abbrev pub readNumbers : List ℕ
 readNumbers = 0 ∷ 1 ∷ 2 ∷ 3 ∷ 4 ∷ 8 ∷ 9 ∷ []
 
+-- M-112: with 15, "last".
 abbrev pub questionNumbers : List ℕ
-questionNumbers = 0 ∷ 1 ∷ 2 ∷ 4 ∷ 5 ∷ []
+questionNumbers = 0 ∷ 1 ∷ 2 ∷ 4 ∷ 5 ∷ 15 ∷ []
 
 -- M-106: those of the block, and "13", for "the length only".
 abbrev pub directoryNumbers : List ℕ

@@ -1,4 +1,4 @@
--- 01, "Examples to hold it to": the starred ones, as one table, with some of M-100, M-101, M-102, M-107 and M-109. A case says what it says
+-- 01, "Examples to hold it to": the starred ones, as one table, with some of M-100, M-101, M-102, M-107, M-109 and M-112. A case says what it says
 -- by the promises of the calls.
 use Prim.Native.Nat.{ℕ, suc, _+_, _-_, _≤_}
 use mathlib.Core.Path.{_≡_}
@@ -12,17 +12,23 @@ use Rattle.index.specs.Message.{IsKind, kindOf}
 use Rattle.index.specs.Wide.{Sent}
 use Rattle.index.specs.Wide.Sent.{plain, wide}
 use Rattle.index.specs.Calls.{Sends, WritesSet, ReadsSet}
+use Rattle.rights.specs.Profiles.{ordinary, strict, IsProfile}
 use Rattle.rights.specs.Questions.{Full}
 use Rattle.tight.specs.Blocks.{twos, Row, once, block, zeros, takesX, addsX, halfBytes, giving, withdrawing, moving, Several, absent, several, nothing, reads, give, withdraw}
 
 pub data Case : Type 0 where
-  -- on the block, the user holds these rights on the object, and so many M records are examined on the user's side and on the
-  -- object's
+  -- on the block, the user holds these rights on the object, in each profile, and so many M records are examined on the user's side and
+  -- on the object's
   rights : (block : List ℕ) (user object mask of-user of-object : ℕ) → Case
-  -- on the block, the user holds these rights on every object, whatever the numbers of records examined
-  everywhere : (block : List ℕ) (user mask : ℕ) → Case
-  -- on the block, the user holds these rights on the object, whatever the numbers of records examined
-  holds : (block : List ℕ) (user object mask : ℕ) → Case
+  -- on the block, the user holds these rights on the object, in the ordinary profile and in the strict one, and so many M records are
+  -- examined, in either
+  profiles : (block : List ℕ) (user object mask in-strict of-user of-object : ℕ) → Case
+  -- on the block, the user holds these rights on every object, in the ordinary profile and in the strict one, whatever the numbers of
+  -- records examined
+  everywhere : (block : List ℕ) (user mask in-strict : ℕ) → Case
+  -- on the block, the user holds these rights on the object, in the ordinary profile and in the strict one, whatever the numbers of records
+  -- examined
+  holds : (block : List ℕ) (user object mask in-strict : ℕ) → Case
   -- the set of the kind and key in the block has n records and is written so, and the text is read back
   text : (block : List ℕ) (kind key : ℕ) (text : List ℕ) (n : ℕ) → Case
   -- the text is refused with 9, and this is its place among texts of each kind
@@ -40,10 +46,19 @@ pub data Case : Type 0 where
 abbrev pub Anywhere : (List ℕ → ℕ → ℕ → Type 0) → Type 0
 Anywhere P = (b : List ℕ) (kind x : ℕ) → Sized b → Good b → IsKind kind → IsName x → P b kind x
 
+-- In each profile.
+abbrev pub InEach : (ℕ → Type 0) → Type 0
+InEach P = (p : ℕ) → IsProfile p → P p
+
 abbrev pub Shows : Case → Type 0
-Shows (Case.rights b u o mask i j) = Full b u o allRights (0, mask, i, j)
-Shows (Case.everywhere b u mask) = (o : ℕ) → IsName o → (i : ℕ) × (j : ℕ) × Full b u o allRights (0, mask, i, j)
-Shows (Case.holds b u o mask) = (i : ℕ) × (j : ℕ) × Full b u o allRights (0, mask, i, j)
+Shows (Case.rights b u o mask i j) = InEach (λ p. Full b u o allRights p (0, mask, i, j))
+Shows (Case.profiles b u o mask in-strict i j) =
+    Full b u o allRights ordinary (0, mask, i, j) × Full b u o allRights strict (0, in-strict, i, j)
+Shows (Case.everywhere b u mask in-strict) =
+    (o : ℕ) → IsName o
+    → (i : ℕ) × (j : ℕ) × Full b u o allRights ordinary (0, mask, i, j) × Full b u o allRights strict (0, in-strict, i, j)
+Shows (Case.holds b u o mask in-strict) =
+    (i : ℕ) × (j : ℕ) × Full b u o allRights ordinary (0, mask, i, j) × Full b u o allRights strict (0, in-strict, i, j)
 Shows (Case.text b kind x t n) =
     ((out : List ℕ) → length t ≤ length out → WritesSet b kind x out (0, length t, t ++ drop (length t) out))
     × ReadsSet b kind x t (0, n, b)
@@ -123,7 +138,7 @@ chains =
     -- "1→2 (R), 2→3 (U), P key 9 id 3 MRUP: user 1 holds 0 on 9."
     ∷ Case.rights (block (once 1 2 2 ∷ once 2 3 4 ∷ []) (once 9 3 15 ∷ []) [] 0) 1 9 0 2 0
     -- "1→1 alone, P key 0 id 1 R: user 1 holds 2 on every object."
-    ∷ Case.everywhere (block (once 1 1 2 ∷ []) (once 0 1 2 ∷ []) [] 0) 1 2
+    ∷ Case.everywhere (block (once 1 1 2 ∷ []) (once 0 1 2 ∷ []) [] 0) 1 2 2
     -- "P key 9 id 1 MRUP, F key 9 id 20 RU, F key 9 id 21 R": M-102: "The example with two filters then gives 2 in place of 6."
     ∷ Case.rights (block [] (once 9 1 15 ∷ []) (once 9 20 6 ∷ once 9 21 2 ∷ []) 0) 1 9 2 0 0
     -- M-102: "every F record keyed by the object or by any group its M records name". Of the groups 3 (RUP) and 12 (MRP) and the
@@ -297,11 +312,58 @@ firms =
     ∷ Case.rights (block (once 1 10 271 ∷ once 32 10 256 ∷ once 32 20 15 ∷ []) everyone [] 0) 1 32 0 1 2
     ∷ Case.rights (block (once 1 10 271 ∷ once 35 20 256 ∷ []) everyone (once 20 7 2 ∷ []) 0) 1 35 15 1 1
     -- "a chain of 1 to 32 records": 99's group is not hers where she is bound by the 32nd, and no matter where it is the 33rd.
-    ∷ Case.holds (far 32) 100 99 0
-    ∷ Case.holds (far 33) 100 99 2
+    ∷ Case.holds (far 32) 100 99 0 0
+    ∷ Case.holds (far 33) 100 99 2 2
     -- "a chain of 0 to 32 records": from the object to her group.
-    ∷ Case.holds (deep 32) 1 100 2
-    ∷ Case.holds (deep 33) 1 100 0 ∷ []
+    ∷ Case.holds (deep 32) 1 100 2 2
+    ∷ Case.holds (deep 33) 1 100 0 0 ∷ []
+
+-- ---- M-112, "Denials that win"
+
+-- 1 is in the group 2 for all rights, and in 3 for R alone. 9 is in the group 7 for all rights, as 10 is, and in 8 for U alone. The group 2 may
+-- do everything on 9; the other P records are those given, the ones before that one and the ones after it.
+abbrev pub denying : List Row → List Row → List ℕ
+denying before after =
+    block (once 1 2 15 ∷ once 1 3 2 ∷ once 9 7 15 ∷ once 9 8 4 ∷ once 10 7 15 ∷ []) (before ++ (once 9 2 15 ∷ after)) [] 0
+
+abbrev pub denials : List Case
+denials =
+    -- "a P record counts its small letter above zero and is reached for that right from both sides": r on the group that 9 reaches, for 1
+    -- herself; and r on 9 itself, for the group that 1 reaches. The mask 32 is r alone: such a record grants nothing, and yet it bars.
+    Case.profiles (denying (once 7 1 32 ∷ []) []) 1 9 15 13 2 2
+    ∷ Case.profiles (denying [] (once 9 3 32 ∷ [])) 1 9 15 13 2 2
+    -- By chains on both sides; and with the mask 34, R and r, so that the capital letter counts too.
+    ∷ Case.profiles (denying (once 7 3 32 ∷ []) []) 1 9 15 13 2 2
+    ∷ Case.profiles (denying (once 7 3 34 ∷ []) []) 1 9 15 13 2 2
+    -- "for that right": 1 reaches 3 for R alone, and 9 reaches 8 for U alone. So of the four denials on 9 for 3 only r bars, of those on 8
+    -- for 1 only u, of those on 8 for 3 none.
+    ∷ Case.profiles (denying [] (once 9 3 240 ∷ [])) 1 9 15 13 2 2
+    ∷ Case.profiles (denying (once 8 1 240 ∷ []) []) 1 9 15 11 2 2
+    ∷ Case.rights (denying (once 8 3 240 ∷ []) []) 1 9 15 2 2
+    -- "from both sides": on an object that 9 does not reach, and for a name that 1 does not.
+    ∷ Case.rights (denying (once 6 1 240 ∷ []) []) 1 9 15 2 2
+    ∷ Case.rights (denying [] (once 9 4 240 ∷ [])) 1 9 15 2 2
+    -- In the record that grants: in both profiles, by the net mask. In the strict profile alone, that record's denial bars what another
+    -- record grants.
+    ∷ Case.rights (block [] (once 9 1 47 ∷ []) [] 0) 1 9 13 0 0
+    ∷ Case.profiles (block (once 1 2 15 ∷ []) (once 9 1 47 ∷ once 9 2 15 ∷ []) [] 0) 1 9 15 13 1 0
+    -- Name 0: its own groups are followed only where a chain from the object reaches it; on the user's side it is a name like any other.
+    ∷ Case.rights (block (once 0 5 15 ∷ []) (once 5 1 32 ∷ once 9 1 15 ∷ []) [] 0) 1 9 15 0 0
+    ∷ Case.profiles (block (once 0 5 15 ∷ once 9 0 2 ∷ []) (once 5 1 32 ∷ once 9 1 15 ∷ []) [] 0) 1 9 15 13 0 2
+    ∷ Case.rights (block [] (once 9 0 240 ∷ once 9 1 15 ∷ []) [] 0) 1 9 15 0 0
+    -- The user is the object.
+    ∷ Case.profiles (block [] (once 0 1 15 ∷ once 1 1 32 ∷ []) [] 0) 1 1 15 13 0 0
+    -- "granted as before": a record with small letters alone grants nothing, and the filters bind in each profile: of M and R, which they let
+    -- through, M is barred.
+    ∷ Case.rights (block [] (once 9 1 160 ∷ []) [] 0) 1 9 0 0 0
+    ∷ Case.profiles (block (once 1 2 15 ∷ []) (once 9 1 15 ∷ once 9 2 144 ∷ []) (once 9 20 3 ∷ []) 0) 1 9 3 2 1 0
+    -- So do exclusive groups: her own is 2, and 9 is shut to her where it is in another group, open where it is in none.
+    ∷ Case.rights (block (once 1 2 271 ∷ once 9 7 15 ∷ []) (once 9 1 15 ∷ once 9 2 32 ∷ []) [] 0) 1 9 0 1 1
+    ∷ Case.profiles (block (once 1 2 271 ∷ []) (once 9 1 15 ∷ once 9 2 32 ∷ []) [] 0) 1 9 15 13 1 0 ∷ []
+
+-- m on name 0 bars create on every object.
+abbrev pub deniedEverywhere : List Case
+deniedEverywhere = Case.everywhere (block (once 1 2 15 ∷ []) (once 0 1 15 ∷ once 0 2 16 ∷ []) [] 0) 1 15 14 ∷ []
 
 -- ---- M-100, "Statements with several objects and subjects"
 
@@ -371,6 +433,6 @@ wides =
     ∷ Case.malformed nothing
     (wide (2 ∷ 2 ∷ 0 ∷ 0 ∷ 1 ∷ 1 ∷ 0 ∷ 2 ∷ (twos (0 ∷ 16 ∷ 16 ∷ 18 ∷ []) ++ twos (7 ∷ 3 ∷ [])))) ∷ []
 
--- All of them, in 01's order, with what M-100, M-101, M-102, M-107 and M-109 add.
+-- All of them, in 01's order, with what M-100, M-101, M-102, M-107, M-109 and M-112 add.
 abbrev pub cases : List Case
-cases = masks ++ (texts ++ (places ++ (chains ++ (examined ++ (appointments ++ (limits ++ (markers ++ (firms ++ wides))))))))
+cases = masks ++ (texts ++ (places ++ (chains ++ (examined ++ (appointments ++ (limits ++ (markers ++ (firms ++ (denials ++ (deniedEverywhere ++ wides))))))))))

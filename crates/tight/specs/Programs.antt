@@ -1,5 +1,5 @@
 -- A program for the calls of 01 and of M-100, and for those that M-106 adds: any functions at all. It meets the promises when each of its
--- answers does. The wrong ones that 01, M-100, M-106 and M-107 turn away.
+-- answers does. The wrong ones that 01, M-100, M-106, M-107 and M-112 turn away.
 use Prim.Native.Nat.{ℕ, _<_, _≤_}
 use mathlib.Core.Path.{_≡_}
 use mathlib.Core.List.{List, [], _∷_}
@@ -12,6 +12,7 @@ use Rattle.index.specs.Wide.Sent.{plain, wide}
 use Rattle.index.specs.Calls.{Makes, Sends, WritesSet, ReadsSet}
 use Rattle.index.specs.History.{Labelled, Statement, left, after, tally}
 use Rattle.directory.specs.By.{MakesDirectory, SendsBy, ReadBy, WriteBy}
+use Rattle.rights.specs.Profiles.{ordinary, strict, IsProfile}
 use Rattle.rights.specs.Questions.{Full, Short, FullBy, ShortBy}
 
 -- Each call gives the number, the value, if it has one, and the lent bytes then, if it may change any; the full question has three
@@ -22,28 +23,28 @@ pub record Program : Type 0 where
   pub sends : (block : List ℕ) (message : Sent) → ℕ × List ℕ
   pub write : (block : List ℕ) (kind key : ℕ) (out : List ℕ) → ℕ × ℕ × List ℕ
   pub read : (block : List ℕ) (kind key : ℕ) (text : List ℕ) → ℕ × ℕ × List ℕ
-  pub rights : (block : List ℕ) (user object request : ℕ) → ℕ × ℕ × ℕ × ℕ
-  pub may : (block : List ℕ) (user object request : ℕ) → ℕ × ℕ
+  pub rights : (block : List ℕ) (user object request profile : ℕ) → ℕ × ℕ × ℕ × ℕ
+  pub may : (block : List ℕ) (user object request profile : ℕ) → ℕ × ℕ
   pub directory : (block directory : List ℕ) → ℕ × List ℕ
   pub sends-by : (block directory : List ℕ) (message : Sent) → ℕ × ℕ × List ℕ × List ℕ
   pub write-by : (block directory : List ℕ) (kind key : ℕ) (out : List ℕ) → ℕ × ℕ × List ℕ
   pub read-by : (block directory : List ℕ) (kind key : ℕ) (text : List ℕ) → ℕ × ℕ × List ℕ × List ℕ
-  pub rights-by : (block directory : List ℕ) (user object request : ℕ) → ℕ × ℕ × ℕ × ℕ
-  pub may-by : (block directory : List ℕ) (user object request : ℕ) → ℕ × ℕ
+  pub rights-by : (block directory : List ℕ) (user object request profile : ℕ) → ℕ × ℕ × ℕ × ℕ
+  pub may-by : (block directory : List ℕ) (user object request profile : ℕ) → ℕ × ℕ
 
 pub record Meets (p : Program) : Type 0 where
   pub make : (b : List ℕ) → Makes b (p .make b)
   pub sends : (b : List ℕ) (m : Sent) → Sends b m (p .sends b m)
   pub write : (b : List ℕ) (kind x : ℕ) (out : List ℕ) → WritesSet b kind x out (p .write b kind x out)
   pub read : (b : List ℕ) (kind x : ℕ) (text : List ℕ) → ReadsSet b kind x text (p .read b kind x text)
-  pub rights : (b : List ℕ) (u o request : ℕ) → Full b u o request (p .rights b u o request)
-  pub may : (b : List ℕ) (u o request : ℕ) → Short b u o request (p .may b u o request)
+  pub rights : (b : List ℕ) (u o request profile : ℕ) → Full b u o request profile (p .rights b u o request profile)
+  pub may : (b : List ℕ) (u o request profile : ℕ) → Short b u o request profile (p .may b u o request profile)
   pub directory : (b d : List ℕ) → MakesDirectory b d (p .directory b d)
   pub sends-by : (b d : List ℕ) (m : Sent) → SendsBy b d m (p .sends-by b d m)
   pub write-by : (b d : List ℕ) (kind x : ℕ) (out : List ℕ) → WriteBy b d kind x out (p .write-by b d kind x out)
   pub read-by : (b d : List ℕ) (kind x : ℕ) (text : List ℕ) → ReadBy b d kind x text (p .read-by b d kind x text)
-  pub rights-by : (b d : List ℕ) (u o request : ℕ) → FullBy b d u o request (p .rights-by b d u o request)
-  pub may-by : (b d : List ℕ) (u o request : ℕ) → ShortBy b d u o request (p .may-by b d u o request)
+  pub rights-by : (b d : List ℕ) (u o request profile : ℕ) → FullBy b d u o request profile (p .rights-by b d u o request profile)
+  pub may-by : (b d : List ℕ) (u o request profile : ℕ) → ShortBy b d u o request profile (p .may-by b d u o request profile)
 
 -- The block after the program has had the messages, one after the other.
 abbrev pub run : Program → List ℕ → List Sent → List ℕ
@@ -52,46 +53,42 @@ run p b (m ∷ ms) = run p (p .sends b m .1) ms
 
 -- ---- "Five empty programs have to be turned away."
 
--- "One that refuses everything": some call of it refuses every input.
+-- "One that refuses everything": some call of it refuses every input; a question, in some profile.
 pub data RefusesEverything (p : Program) : Type 0 where
   makes : ((b : List ℕ) → 0 < p .make b .0) → RefusesEverything p
   messages : ((b m : List ℕ) → 0 < p .sends b (plain m) .0) → RefusesEverything p
   wides : ((b m : List ℕ) → 0 < p .sends b (wide m) .0) → RefusesEverything p
   writes : ((b : List ℕ) (kind x : ℕ) (out : List ℕ) → 0 < p .write b kind x out .0) → RefusesEverything p
   reads : ((b : List ℕ) (kind x : ℕ) (text : List ℕ) → 0 < p .read b kind x text .0) → RefusesEverything p
-  full : ((b : List ℕ) (u o request : ℕ) → 0 < p .rights b u o request .0) → RefusesEverything p
-  short : ((b : List ℕ) (u o request : ℕ) → 0 < p .may b u o request .0) → RefusesEverything p
+  full : (profile : ℕ) → IsProfile profile → ((b : List ℕ) (u o request : ℕ) → 0 < p .rights b u o request profile .0) → RefusesEverything p
+  short : (profile : ℕ) → IsProfile profile → ((b : List ℕ) (u o request : ℕ) → 0 < p .may b u o request profile .0) → RefusesEverything p
   directories : ((b d : List ℕ) → 0 < p .directory b d .0) → RefusesEverything p
   messages-by : ((b d m : List ℕ) → 0 < p .sends-by b d (plain m) .0) → RefusesEverything p
   wides-by : ((b d m : List ℕ) → 0 < p .sends-by b d (wide m) .0) → RefusesEverything p
   writes-by : ((b d : List ℕ) (kind x : ℕ) (out : List ℕ) → 0 < p .write-by b d kind x out .0) → RefusesEverything p
   reads-by : ((b d : List ℕ) (kind x : ℕ) (text : List ℕ) → 0 < p .read-by b d kind x text .0) → RefusesEverything p
-  full-by : ((b d : List ℕ) (u o request : ℕ) → 0 < p .rights-by b d u o request .0) → RefusesEverything p
-  short-by : ((b d : List ℕ) (u o request : ℕ) → 0 < p .may-by b d u o request .0) → RefusesEverything p
+  full-by : (profile : ℕ) → IsProfile profile → ((b d : List ℕ) (u o request : ℕ) → 0 < p .rights-by b d u o request profile .0) → RefusesEverything p
+  short-by : (profile : ℕ) → IsProfile profile → ((b d : List ℕ) (u o request : ℕ) → 0 < p .may-by b d u o request profile .0) → RefusesEverything p
 
--- "One that grants the same mask always", or gives the same answer to each short question that it accepts, or reports the same
--- number of records examined on one of the sides.
+-- "One that grants the same mask always", in some profile, or gives the same answer to each short question that it accepts in it, or reports
+-- the same number of records examined on one of the sides.
 pub data AnswersTheSame (p : Program) : Type 0 where
-  full : (mask : ℕ) → ((b : List ℕ) (u o request : ℕ) → p .rights b u o request .0 ≡ 0 → p .rights b u o request .1 ≡ mask)
-      → AnswersTheSame p
-  user : (n : ℕ) → ((b : List ℕ) (u o request : ℕ) → p .rights b u o request .0 ≡ 0 → p .rights b u o request .2 ≡ n)
-      → AnswersTheSame p
-  object : (n : ℕ) → ((b : List ℕ) (u o request : ℕ) → p .rights b u o request .0 ≡ 0 → p .rights b u o request .3 ≡ n)
-      → AnswersTheSame p
-  short : (answer : ℕ) → ((b : List ℕ) (u o request : ℕ) → p .may b u o request .0 ≡ 0 → p .may b u o request .1 ≡ answer)
-      → AnswersTheSame p
-  full-by : (mask : ℕ)
-      → ((b d : List ℕ) (u o request : ℕ) → p .rights-by b d u o request .0 ≡ 0 → p .rights-by b d u o request .1 ≡ mask)
-      → AnswersTheSame p
-  user-by : (n : ℕ)
-      → ((b d : List ℕ) (u o request : ℕ) → p .rights-by b d u o request .0 ≡ 0 → p .rights-by b d u o request .2 ≡ n)
-      → AnswersTheSame p
-  object-by : (n : ℕ)
-      → ((b d : List ℕ) (u o request : ℕ) → p .rights-by b d u o request .0 ≡ 0 → p .rights-by b d u o request .3 ≡ n)
-      → AnswersTheSame p
-  short-by : (answer : ℕ)
-      → ((b d : List ℕ) (u o request : ℕ) → p .may-by b d u o request .0 ≡ 0 → p .may-by b d u o request .1 ≡ answer)
-      → AnswersTheSame p
+  full : (profile mask : ℕ) → IsProfile profile
+      → ((b : List ℕ) (u o request : ℕ) → p .rights b u o request profile .0 ≡ 0 → p .rights b u o request profile .1 ≡ mask) → AnswersTheSame p
+  user : (profile n : ℕ) → IsProfile profile
+      → ((b : List ℕ) (u o request : ℕ) → p .rights b u o request profile .0 ≡ 0 → p .rights b u o request profile .2 ≡ n) → AnswersTheSame p
+  object : (profile n : ℕ) → IsProfile profile
+      → ((b : List ℕ) (u o request : ℕ) → p .rights b u o request profile .0 ≡ 0 → p .rights b u o request profile .3 ≡ n) → AnswersTheSame p
+  short : (profile answer : ℕ) → IsProfile profile
+      → ((b : List ℕ) (u o request : ℕ) → p .may b u o request profile .0 ≡ 0 → p .may b u o request profile .1 ≡ answer) → AnswersTheSame p
+  full-by : (profile mask : ℕ) → IsProfile profile
+      → ((b d : List ℕ) (u o request : ℕ) → p .rights-by b d u o request profile .0 ≡ 0 → p .rights-by b d u o request profile .1 ≡ mask) → AnswersTheSame p
+  user-by : (profile n : ℕ) → IsProfile profile
+      → ((b d : List ℕ) (u o request : ℕ) → p .rights-by b d u o request profile .0 ≡ 0 → p .rights-by b d u o request profile .2 ≡ n) → AnswersTheSame p
+  object-by : (profile n : ℕ) → IsProfile profile
+      → ((b d : List ℕ) (u o request : ℕ) → p .rights-by b d u o request profile .0 ≡ 0 → p .rights-by b d u o request profile .3 ≡ n) → AnswersTheSame p
+  short-by : (profile answer : ℕ) → IsProfile profile
+      → ((b d : List ℕ) (u o request : ℕ) → p .may-by b d u o request profile .0 ≡ 0 → p .may-by b d u o request profile .1 ≡ answer) → AnswersTheSame p
 
 -- "One whose messages change nothing", or some other call that is to write lent bytes and never does.
 pub data ChangesNothing (p : Program) : Type 0 where
@@ -119,19 +116,39 @@ pub data TakesAny (p : Program) : Type 0 where
   wides : ((b d m : List ℕ) → p .sends-by b d (wide m) .0 ≡ 13 → ⊥) → TakesAny p
   writes : ((b d : List ℕ) (kind x : ℕ) (out : List ℕ) → p .write-by b d kind x out .0 ≡ 13 → ⊥) → TakesAny p
   reads : ((b d : List ℕ) (kind x : ℕ) (text : List ℕ) → p .read-by b d kind x text .0 ≡ 13 → ⊥) → TakesAny p
-  full : ((b d : List ℕ) (u o request : ℕ) → p .rights-by b d u o request .0 ≡ 13 → ⊥) → TakesAny p
-  short : ((b d : List ℕ) (u o request : ℕ) → p .may-by b d u o request .0 ≡ 13 → ⊥) → TakesAny p
+  full : ((b d : List ℕ) (u o request profile : ℕ) → p .rights-by b d u o request profile .0 ≡ 13 → ⊥) → TakesAny p
+  short : ((b d : List ℕ) (u o request profile : ℕ) → p .may-by b d u o request profile .0 ≡ 13 → ⊥) → TakesAny p
 
 -- M-107: one that pays no heed to markers. On two blocks in which every letter counts the same, markers aside, it gives the same rights, or
--- the same short answer.
+-- the same short answer, in some profile.
 abbrev pub SameLetters : List ℕ → List ℕ → Type 0
 SameLetters b b′ = (kind : Kind) (x y k : ℕ) → k < markerX → count b kind x y k ≡ count b′ kind x y k
 
 pub data IgnoresMarkers (p : Program) : Type 0 where
-  full : ((b b′ : List ℕ) → SameLetters b b′ → (u o request : ℕ) → p .rights b u o request .1 ≡ p .rights b′ u o request .1)
+  full : (profile : ℕ) → IsProfile profile
+      → ((b b′ : List ℕ) → SameLetters b b′ → (u o request : ℕ) → p .rights b u o request profile .1 ≡ p .rights b′ u o request profile .1)
       → IgnoresMarkers p
-  short : ((b b′ : List ℕ) → SameLetters b b′ → (u o request : ℕ) → p .may b u o request .1 ≡ p .may b′ u o request .1)
+  short : (profile : ℕ) → IsProfile profile
+      → ((b b′ : List ℕ) → SameLetters b b′ → (u o request : ℕ) → p .may b u o request profile .1 ≡ p .may b′ u o request profile .1)
       → IgnoresMarkers p
+
+-- M-112: one to which the profile is all the same: it gives the same rights, or the same short answer, in both, in some call.
+pub data IgnoresProfile (p : Program) : Type 0 where
+  full : ((b : List ℕ) (u o request : ℕ) → p .rights b u o request ordinary .1 ≡ p .rights b u o request strict .1) → IgnoresProfile p
+  short : ((b : List ℕ) (u o request : ℕ) → p .may b u o request ordinary .1 ≡ p .may b u o request strict .1) → IgnoresProfile p
+  full-by : ((b d : List ℕ) (u o request : ℕ) → p .rights-by b d u o request ordinary .1 ≡ p .rights-by b d u o request strict .1)
+      → IgnoresProfile p
+  short-by : ((b d : List ℕ) (u o request : ℕ) → p .may-by b d u o request ordinary .1 ≡ p .may-by b d u o request strict .1)
+      → IgnoresProfile p
+
+-- M-112: "a profile other than ordinary or strict is 15": one that accepts some question in a profile that is neither, in some call.
+pub data TakesAnyProfile (p : Program) : Type 0 where
+  full : (b : List ℕ) (u o request profile : ℕ) → (IsProfile profile → ⊥) → p .rights b u o request profile .0 ≡ 0 → TakesAnyProfile p
+  short : (b : List ℕ) (u o request profile : ℕ) → (IsProfile profile → ⊥) → p .may b u o request profile .0 ≡ 0 → TakesAnyProfile p
+  full-by : (b d : List ℕ) (u o request profile : ℕ) → (IsProfile profile → ⊥) → p .rights-by b d u o request profile .0 ≡ 0
+      → TakesAnyProfile p
+  short-by : (b d : List ℕ) (u o request profile : ℕ) → (IsProfile profile → ⊥) → p .may-by b d u o request profile .0 ≡ 0
+      → TakesAnyProfile p
 
 -- M-107: "Markers are taken and added with the letters": one whose messages, plain or wide, leave the count of every marker as it was.
 abbrev pub SameMarkers : List ℕ → List ℕ → Type 0

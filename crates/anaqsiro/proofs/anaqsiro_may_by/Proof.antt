@@ -11,7 +11,7 @@ returns : tie.Need-returns
 unfolding MayByReturns AsksAllBy
 returns c =
     let args = c .before .before .before .before .args in
-    answer-returned (ShortBy (now (args .block)) (now (args .directory)) (args .user) (args .object) (args .request)) (c .before .may-by .result) (c .before .may-by .ensures)
+    answer-returned (ShortBy (now (args .block)) (now (args .directory)) (args .user) (args .object) (args .request) (args .profile)) (c .before .may-by .result) (c .before .may-by .ensures)
     (c .of-answer .ensures)
 
 pub anaqsiro-may-by-spec : {M : Type 1} → statement M

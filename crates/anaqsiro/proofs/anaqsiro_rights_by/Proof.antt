@@ -9,13 +9,13 @@ use Rattle.anaqsiro.proofs.anaqsiro_rights_by.Statement.{statement}
 use Rattle.anaqsiro.proofs.anaqsiro_rights_by.Tie as tie
 
 of-rights-requires : tie.Need-of-rights-requires
-of-rights-requires c κs = rights-fit-by _ _ _ _ _ _ (c .rights-by .ensures)
+of-rights-requires c κs = rights-fit-by _ _ _ _ _ _ _ (c .rights-by .ensures)
 
 returns : tie.Need-returns
 unfolding RightsByReturns AsksBy
 returns c =
     let args = c .before .before .before .before .args in
-    rights-returned (FullBy (now (args .block)) (now (args .directory)) (args .user) (args .object) (args .request)) (c .before .rights-by .result) (c .before .rights-by .ensures)
+    rights-returned (FullBy (now (args .block)) (now (args .directory)) (args .user) (args .object) (args .request) (args .profile)) (c .before .rights-by .result) (c .before .rights-by .ensures)
     (c .of-rights .ensures)
 
 pub anaqsiro-rights-by-spec : {M : Type 1} → statement M
