@@ -52,8 +52,8 @@ static int move_to(uint64_t day) {
 static void print_planner(void) {
     uint8_t text[64];
     const uint64_t written = anaqsiro_write(block, sizeof block, ANAQSIRO_MEMBERSHIP, PLANNER, text, sizeof text);
-    const uint64_t may =
-        anaqsiro_may_by(block, sizeof block, directory, ANAQSIRO_DIRECTORY_LENGTH, PLANNER, ORDER_9, ANAQSIRO_READ);
+    const uint64_t may = anaqsiro_may_by(block, sizeof block, directory, ANAQSIRO_DIRECTORY_LENGTH, PLANNER, ORDER_9,
+                                         ANAQSIRO_READ, ANAQSIRO_ORDINARY);
     printf("  groups \"%.*s\", may read order 9: %s\n", (int)anaqsiro_value(written), (const char *)text,
            anaqsiro_value(may) ? "yes" : "no");
 }

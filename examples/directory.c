@@ -61,8 +61,8 @@ static void load(void) {
 static void due_list(const char *who, uint64_t name) {
     uint32_t may = 0;
     for (uint64_t order = 0; order < HOW_MANY; order++) {
-        const uint64_t answer =
-            anaqsiro_may_by(block, sizeof block, directory, ANAQSIRO_DIRECTORY_LENGTH, name, ORDERS + order, ANAQSIRO_UPDATE);
+        const uint64_t answer = anaqsiro_may_by(block, sizeof block, directory, ANAQSIRO_DIRECTORY_LENGTH, name, ORDERS + order,
+                                                ANAQSIRO_UPDATE, ANAQSIRO_ORDINARY);
         may += told("the due list", answer);
         if (anaqsiro_number(answer) != ANAQSIRO_ACCEPTED) {
             return;
@@ -100,8 +100,8 @@ int main(void) {
     due_list("after a message without it", PLANNER);
     make_directory();
     due_list("with all three lines she", PLANNER);
-    const uint64_t answer =
-        anaqsiro_rights_by(block, sizeof block, directory, ANAQSIRO_DIRECTORY_LENGTH, PLANNER, ORDERS + 5, ANAQSIRO_ALL);
+    const uint64_t answer = anaqsiro_rights_by(block, sizeof block, directory, ANAQSIRO_DIRECTORY_LENGTH, PLANNER, ORDERS + 5,
+                                               ANAQSIRO_ALL, ANAQSIRO_ORDINARY);
     printf("memberships examined: %u for her, %u for an order\n", anaqsiro_user_examined(answer),
            anaqsiro_object_examined(answer));
     return 0;

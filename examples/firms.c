@@ -33,8 +33,8 @@ static void print_table(void) {
     for (size_t person = 0; person < sizeof people / sizeof *people; person++) {
         printf("  %s:", people[person].words);
         for (size_t object = 0; object < sizeof objects / sizeof *objects; object++) {
-            const uint64_t answer =
-                anaqsiro_may(block, sizeof block, people[person].name, objects[object].name, ANAQSIRO_READ);
+            const uint64_t answer = anaqsiro_may(block, sizeof block, people[person].name, objects[object].name, ANAQSIRO_READ,
+                                                 ANAQSIRO_ORDINARY);
             printf(" %s %s%s", objects[object].words, anaqsiro_value(answer) ? "yes" : "no",
                    object + 1 < sizeof objects / sizeof *objects ? "," : "\n");
         }

@@ -17,6 +17,6 @@ int main(void) {
     anaqsiro_make(block, sizeof block);
     state(ANAQSIRO_MEMBERSHIP, ANNA, FITTERS, "MRUP"); /* Anna is a fitter, with all that fitters may do */
     state(ANAQSIRO_PERMISSION, LINE_2, FITTERS, "RU"); /* fitters may read and update line 2 */
-    uint64_t answer = anaqsiro_may(block, sizeof block, ANNA, LINE_2, anaqsiro_mask("U"));
+    uint64_t answer = anaqsiro_may(block, sizeof block, ANNA, LINE_2, anaqsiro_mask("U"), ANAQSIRO_ORDINARY);
     printf("May Anna update line 2? %s\n", anaqsiro_value(answer) ? "yes" : "no");
 }

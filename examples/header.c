@@ -1,6 +1,6 @@
 /* Tests what the header gives beside the calls of the rules, as C99 and as C++11: the helpers, messages and wide messages, the
- * longest text, the places of wrong texts, the parts of a full question's answer, the calls that go through a block record by
- * record, a directory, dates, and appointments with each number of each call for them. */
+ * longest text, the places of wrong texts, the parts of a full question's answer, both profiles, the calls that go through a block
+ * record by record, a directory, dates, and appointments with each number of each call for them. */
 #include "anaqsiro.h"
 
 #include <stdio.h>
@@ -12,7 +12,7 @@
 #define LANGUAGE "C"
 #endif
 
-enum { KEY = 7, ROOM = 4, MEMBERSHIPS = 8 };
+enum { KEY = 7, ROOM = 4, MEMBERSHIPS = 8, DENYING = 13 };
 
 static unsigned tests, failures;
 
@@ -85,8 +85,8 @@ static void test_refusals(void) {
              ANAQSIRO_BLOCK_MAX % 1000);
     same_words("0", anaqsiro_refusal_text(0), "accepted");
     same_words("1", anaqsiro_refusal_text(1), lengths);
-    for (uint64_t number = 0; number <= ANAQSIRO_DIRECTORY_NOT_OWN; number++) {
-        const int known = number != 11;
+    for (uint64_t number = 0; number <= ANAQSIRO_PROFILE; number++) {
+        const int known = number != 11 && number != 14;
         same("known", strcmp(anaqsiro_refusal_text(number), "unknown") != 0, known);
         for (uint64_t before = 0; known && before < number; before++) {
             same("own words", strcmp(anaqsiro_refusal_text(number), anaqsiro_refusal_text(before)) == 0, 0);
@@ -95,7 +95,8 @@ static void test_refusals(void) {
     same_words("12", anaqsiro_refusal_text(12),
                "a 257th appointment, a date that is none, or a day, date, term or anniversary outside the range");
     same_words("13", anaqsiro_refusal_text(13), "the lent directory has the wrong length or is not the block's own");
-    same_words("14", anaqsiro_refusal_text(ANAQSIRO_DIRECTORY_NOT_OWN + 1), "unknown");
+    same_words("15", anaqsiro_refusal_text(15), "a profile other than ordinary or strict");
+    same_words("16", anaqsiro_refusal_text(ANAQSIRO_PROFILE + 1), "unknown");
     same_words("2^32", anaqsiro_refusal_text((uint64_t)1 << 32), "unknown");
 }
 
@@ -385,7 +386,7 @@ static void test_parts(void) {
         }
     }
     same_parts("the greatest", 2147614735u, 15, 8192, 8192);
-    for (uint64_t number = 1; number <= ANAQSIRO_DIRECTORY_NOT_OWN; number++) {
+    for (uint64_t number = 1; number <= ANAQSIRO_PROFILE; number++) {
         same_parts("a refusal", number << 32, 0, 0, 0);
     }
 }
@@ -394,27 +395,27 @@ static void test_parts(void) {
  * four times each, and those of 1 once. */
 static const char *const groups[] = {"2;M;3;R;4;U;5;P", "3;MRUP", "4;MRUP", "5;MRUP", "2;MRUP"};
 
-/* What questions about them report, as the user's groups and as the object's, whatever is requested or held. A refused one
- * reports 0. */
-static void test_examined(void) {
+/* What questions about them report, as the user's groups and as the object's, whatever is requested or held, in either profile. A
+ * refused one reports 0. */
+static void test_examined(uint64_t profile) {
     uint8_t block[ANAQSIRO_BLOCK_MIN + (MEMBERSHIPS + 1) * ANAQSIRO_RECORD];
     anaqsiro_make(block, sizeof block);
     for (size_t i = 0; i < sizeof groups / sizeof *groups; i++) {
         anaqsiro_read(block, sizeof block, ANAQSIRO_MEMBERSHIP, i + 1, (const uint8_t *)groups[i], strlen(groups[i]));
     }
     same("memberships", anaqsiro_size(block, sizeof block, ANAQSIRO_MEMBERSHIP), MEMBERSHIPS);
-    const uint64_t nothing_held = anaqsiro_rights(block, sizeof block, 1, KEY, ANAQSIRO_ALL);
+    const uint64_t nothing_held = anaqsiro_rights(block, sizeof block, 1, KEY, ANAQSIRO_ALL, profile);
     same_parts("nothing held", nothing_held, 0, 20, 0);
     same("a value all the same", anaqsiro_value(nothing_held), 320);
-    same("no", anaqsiro_may(block, sizeof block, 1, KEY, ANAQSIRO_ALL), 0);
+    same("no", anaqsiro_may(block, sizeof block, 1, KEY, ANAQSIRO_ALL, profile), 0);
 
     same("a grant", anaqsiro_read(block, sizeof block, ANAQSIRO_PERMISSION, KEY, (const uint8_t *)"4;RU", 4), 1);
-    same_parts("all requested", anaqsiro_rights(block, sizeof block, 1, KEY, ANAQSIRO_ALL), 6, 20, 0);
-    same_parts("one requested", anaqsiro_rights(block, sizeof block, 1, KEY, ANAQSIRO_UPDATE), 4, 20, 0);
-    same_parts("the object's side", anaqsiro_rights(block, sizeof block, KEY, 1, ANAQSIRO_ALL), 0, 0, 20);
-    same_parts("both sides", anaqsiro_rights(block, sizeof block, 2, 1, ANAQSIRO_ALL), 0, 4, 20);
+    same_parts("all requested", anaqsiro_rights(block, sizeof block, 1, KEY, ANAQSIRO_ALL, profile), 6, 20, 0);
+    same_parts("one requested", anaqsiro_rights(block, sizeof block, 1, KEY, ANAQSIRO_UPDATE, profile), 4, 20, 0);
+    same_parts("the object's side", anaqsiro_rights(block, sizeof block, KEY, 1, ANAQSIRO_ALL, profile), 0, 0, 20);
+    same_parts("both sides", anaqsiro_rights(block, sizeof block, 2, 1, ANAQSIRO_ALL, profile), 0, 4, 20);
 
-    const uint64_t refused = anaqsiro_rights(block, sizeof block, 1, ANAQSIRO_NAMES, ANAQSIRO_ALL);
+    const uint64_t refused = anaqsiro_rights(block, sizeof block, 1, ANAQSIRO_NAMES, ANAQSIRO_ALL, profile);
     same("refused", anaqsiro_number(refused), ANAQSIRO_NAME);
     same_parts("refused", refused, 0, 0, 0);
 }
@@ -531,19 +532,48 @@ static uint64_t call_write(struct directed *one, uint16_t *by, size_t len, size_
                       : anaqsiro_write_by(one->block, len, by, by_len, ANAQSIRO_PERMISSION, KEY, one->out, sizeof one->out);
 }
 
+/* The two questions, in a profile. */
+static uint64_t ask_rights(struct directed *one, uint16_t *by, size_t len, size_t by_len, uint64_t profile) {
+    return by == none ? anaqsiro_rights(one->block, len, ANAQSIRO_NAMES - 1, KEY, ANAQSIRO_ALL, profile)
+                      : anaqsiro_rights_by(one->block, len, by, by_len, ANAQSIRO_NAMES - 1, KEY, ANAQSIRO_ALL, profile);
+}
+
+static uint64_t ask_may(struct directed *one, uint16_t *by, size_t len, size_t by_len, uint64_t user, uint64_t request,
+                        uint64_t profile) {
+    return by == none ? anaqsiro_may(one->block, len, user, KEY, request, profile)
+                      : anaqsiro_may_by(one->block, len, by, by_len, user, KEY, request, profile);
+}
+
 static uint64_t call_rights(struct directed *one, uint16_t *by, size_t len, size_t by_len) {
-    return by == none ? anaqsiro_rights(one->block, len, ANAQSIRO_NAMES - 1, KEY, ANAQSIRO_ALL)
-                      : anaqsiro_rights_by(one->block, len, by, by_len, ANAQSIRO_NAMES - 1, KEY, ANAQSIRO_ALL);
+    return ask_rights(one, by, len, by_len, ANAQSIRO_ORDINARY);
+}
+
+static uint64_t call_rights_strict(struct directed *one, uint16_t *by, size_t len, size_t by_len) {
+    return ask_rights(one, by, len, by_len, ANAQSIRO_STRICT);
+}
+
+static uint64_t call_rights_other(struct directed *one, uint16_t *by, size_t len, size_t by_len) {
+    return ask_rights(one, by, len, by_len, ANAQSIRO_STRICT + 1);
 }
 
 static uint64_t call_may(struct directed *one, uint16_t *by, size_t len, size_t by_len) {
-    return by == none ? anaqsiro_may(one->block, len, ANAQSIRO_NAMES - 1, KEY, ANAQSIRO_UPDATE)
-                      : anaqsiro_may_by(one->block, len, by, by_len, ANAQSIRO_NAMES - 1, KEY, ANAQSIRO_UPDATE);
+    return ask_may(one, by, len, by_len, ANAQSIRO_NAMES - 1, ANAQSIRO_UPDATE, ANAQSIRO_ORDINARY);
+}
+
+static uint64_t call_may_strict(struct directed *one, uint16_t *by, size_t len, size_t by_len) {
+    return ask_may(one, by, len, by_len, ANAQSIRO_NAMES - 1, ANAQSIRO_UPDATE, ANAQSIRO_STRICT);
+}
+
+static uint64_t call_may_other(struct directed *one, uint16_t *by, size_t len, size_t by_len) {
+    return ask_may(one, by, len, by_len, ANAQSIRO_NAMES - 1, ANAQSIRO_UPDATE, UINT64_MAX);
+}
+
+static uint64_t call_no_request(struct directed *one, uint16_t *by, size_t len, size_t by_len) {
+    return ask_may(one, by, len, by_len, ANAQSIRO_NAMES - 1, 0, ANAQSIRO_STRICT + 1);
 }
 
 static uint64_t call_no_name(struct directed *one, uint16_t *by, size_t len, size_t by_len) {
-    return by == none ? anaqsiro_may(one->block, len, ANAQSIRO_NAMES, KEY, 0)
-                      : anaqsiro_may_by(one->block, len, by, by_len, ANAQSIRO_NAMES, KEY, 0);
+    return ask_may(one, by, len, by_len, ANAQSIRO_NAMES, 0, ANAQSIRO_STRICT + 1);
 }
 
 /* A call, and what it answers on the block of three records. */
@@ -563,7 +593,12 @@ static const struct called calls[] = {
     {"a wrong text", call_wrong_text, ((uint64_t)ANAQSIRO_TEXT << 32) + 5},
     {"a write", call_write, 12},
     {"the full question", call_rights, 6 + 16 * 1},
+    {"the full question, strict", call_rights_strict, 6 + 16 * 1},
+    {"the full question in another profile", call_rights_other, (uint64_t)ANAQSIRO_PROFILE << 32},
     {"the short question", call_may, 1},
+    {"the short question, strict", call_may_strict, 1},
+    {"the short question in another profile", call_may_other, (uint64_t)ANAQSIRO_PROFILE << 32},
+    {"a request of nothing", call_no_request, (uint64_t)ANAQSIRO_MASK << 32},
     {"a name above all", call_no_name, (uint64_t)ANAQSIRO_NAME << 32},
 };
 
@@ -642,6 +677,98 @@ static void test_left_behind(void) {
     }
     same("made again", anaqsiro_directory(one.block, sizeof one.block, one.directory, ANAQSIRO_DIRECTORY_LENGTH), 0);
     same("by it again", call_may(&one, one.directory, sizeof one.block, ANAQSIRO_DIRECTORY_LENGTH), 1);
+}
+
+/* Sets with denials, DENYING records in all. 1 and 4 are in group 2, and in 3 for reading alone; KEY is in group 8, and in 9 for
+ * reading alone. */
+struct denying {
+    uint64_t kind, key;
+    const char *text;
+};
+
+static const struct denying denying[] = {
+    {ANAQSIRO_MEMBERSHIP, 1, "2;MRUP;3;R"},
+    {ANAQSIRO_MEMBERSHIP, 4, "2;MRUP;3;R"},
+    {ANAQSIRO_MEMBERSHIP, KEY, "8;MRUP;9;R"},
+    {ANAQSIRO_PERMISSION, 0, "6;m"},
+    {ANAQSIRO_PERMISSION, KEY, "2;MRU;3;ru;5;RUu;6;MR"},
+    {ANAQSIRO_PERMISSION, 8, "1;Uu2"},
+    {ANAQSIRO_PERMISSION, 9, "2;mup"},
+};
+
+/* A block of them, and its directory. */
+struct asked {
+    uint8_t block[ANAQSIRO_BLOCK_MIN + DENYING * ANAQSIRO_RECORD];
+    uint16_t directory[ANAQSIRO_DIRECTORY_LENGTH];
+};
+
+static void make_asked(struct asked *one) {
+    uint64_t records = 0;
+    anaqsiro_make(one->block, sizeof one->block);
+    for (const struct denying *set = denying; set < denying + sizeof denying / sizeof *denying; set++) {
+        const uint8_t *text = (const uint8_t *)set->text;
+        records += anaqsiro_read(one->block, sizeof one->block, set->kind, set->key, text, strlen(set->text));
+    }
+    same("records", records, DENYING);
+    anaqsiro_directory(one->block, sizeof one->block, one->directory, ANAQSIRO_DIRECTORY_LENGTH);
+}
+
+/* What a user holds on KEY in the ordinary profile and in the strict one, and how many memberships of hers are examined. */
+struct denied {
+    const char *what;
+    uint64_t user;
+    uint32_t held[2], examined;
+};
+
+static const struct denied denied[] = {
+    {"others by a group that the object is in for reading alone", 2, {7, 7}, 0},
+    {"read by a group of hers, update by one of the object's", 1, {7, 1}, 2},
+    {"update by a group that she is in for reading alone", 4, {7, 5}, 2},
+    {"nothing granted", 3, {0, 0}, 0},
+    {"update in the granting record", 5, {2, 2}, 0},
+    {"create by 0", 6, {3, 2}, 0},
+};
+
+/* Both questions about KEY, without a directory and by one, give the same in a profile, whatever is requested. */
+static void same_answers(const struct asked *one, const struct denied *wanted, uint64_t profile) {
+    const size_t len = sizeof one->block, by_len = ANAQSIRO_DIRECTORY_LENGTH;
+    const uint64_t user = wanted->user;
+    for (uint64_t request = 1; request <= ANAQSIRO_ALL; request++) {
+        const uint64_t held = wanted->held[profile] & request;
+        const uint64_t answer = anaqsiro_rights(one->block, len, user, KEY, request, profile);
+        same_parts(wanted->what, answer, held, wanted->examined, 2);
+        same(wanted->what, anaqsiro_rights_by(one->block, len, one->directory, by_len, user, KEY, request, profile), answer);
+        same(wanted->what, anaqsiro_may(one->block, len, user, KEY, request, profile), held == request);
+        same(wanted->what, anaqsiro_may_by(one->block, len, one->directory, by_len, user, KEY, request, profile),
+             held == request);
+    }
+}
+
+/* No question is answered in this profile, without a directory or by one. */
+static void no_profile(const struct asked *one, uint64_t profile) {
+    const size_t len = sizeof one->block, by_len = ANAQSIRO_DIRECTORY_LENGTH;
+    const uint64_t refused = (uint64_t)ANAQSIRO_PROFILE << 32;
+    same("rights", anaqsiro_rights(one->block, len, 2, KEY, 1, profile), refused);
+    same("may", anaqsiro_may(one->block, len, 2, KEY, 1, profile), refused);
+    same("rights by", anaqsiro_rights_by(one->block, len, one->directory, by_len, 2, KEY, 1, profile), refused);
+    same("may by", anaqsiro_may_by(one->block, len, one->directory, by_len, 2, KEY, 1, profile), refused);
+}
+
+/* Each profile that there is, and some that there are not. */
+static void test_profiles(void) {
+    struct asked one;
+    make_asked(&one);
+    same("ordinary", ANAQSIRO_ORDINARY, 0);
+    same("strict", ANAQSIRO_STRICT, 1);
+    for (const struct denied *wanted = denied; wanted < denied + sizeof denied / sizeof *denied; wanted++) {
+        same_answers(&one, wanted, ANAQSIRO_ORDINARY);
+        same_answers(&one, wanted, ANAQSIRO_STRICT);
+    }
+    for (unsigned bit = 1; bit < 64; bit++) {
+        no_profile(&one, (uint64_t)1 << bit);
+        no_profile(&one, ((uint64_t)1 << bit) + ANAQSIRO_STRICT);
+    }
+    no_profile(&one, UINT64_MAX);
 }
 
 /* A date, and its day; a refused one has no parts. */
@@ -908,12 +1035,14 @@ int main(void) {
     test_longest_text();
     test_places();
     test_parts();
-    test_examined();
+    test_examined(ANAQSIRO_ORDINARY);
+    test_examined(ANAQSIRO_STRICT);
     test_records();
     test_directory();
     test_by();
     test_not_own();
     test_left_behind();
+    test_profiles();
     test_dates();
     test_appointment_bytes();
     test_appointment_numbers();

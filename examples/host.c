@@ -35,7 +35,7 @@ static void join(uint64_t name, uint64_t group) {
 /* Asks what the planner may do with the purchase requests, and says how many memberships were examined for it. */
 static void ask_all(void) {
     char letters[ANAQSIRO_LETTERS + 1];
-    const uint64_t answer = anaqsiro_rights(block, sizeof block, PLANNER, REQUESTS, ANAQSIRO_ALL);
+    const uint64_t answer = anaqsiro_rights(block, sizeof block, PLANNER, REQUESTS, ANAQSIRO_ALL, ANAQSIRO_ORDINARY);
     told("rights", answer);
     printf("rights on the requests: %s\n", anaqsiro_put_letters(letters, anaqsiro_held(answer)));
     printf("memberships examined: %u for the planner, %u for the requests\n", anaqsiro_user_examined(answer),
@@ -44,7 +44,7 @@ static void ask_all(void) {
 
 /* Asks whether the planner may release the purchase requests. */
 static void ask(void) {
-    const uint64_t answer = anaqsiro_may(block, sizeof block, PLANNER, REQUESTS, ANAQSIRO_UPDATE);
+    const uint64_t answer = anaqsiro_may(block, sizeof block, PLANNER, REQUESTS, ANAQSIRO_UPDATE, ANAQSIRO_ORDINARY);
     printf("may release: %s\n", told("may", answer) ? "yes" : "no");
 }
 
@@ -115,7 +115,8 @@ int main(void) {
     apply("the second ends", ANAQSIRO_PERMISSION, &may_release, NULL);
     apply("a third would end", ANAQSIRO_PERMISSION, &may_release, NULL);
     ask();
-    told("a name past 16 bits", anaqsiro_rights(block, sizeof block, (1u << 16) + PLANNER, REQUESTS, ANAQSIRO_ALL));
+    told("a name past 16 bits",
+         anaqsiro_rights(block, sizeof block, (1u << 16) + PLANNER, REQUESTS, ANAQSIRO_ALL, ANAQSIRO_ORDINARY));
 
     read_in("letters in another order", "1;U;4;UR2;12;R;30;M");
     read_in("an id that was there before", "1;U;4;RU2;12;R;4;M");

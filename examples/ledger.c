@@ -159,7 +159,7 @@ static void take_as_it_comes(const char *label, uint32_t sequence, const struct 
 
 /* Asks whether the planner may release the purchase requests. */
 static void ask(void) {
-    const uint64_t answer = anaqsiro_may(block, sizeof block, PLANNER, REQUESTS, ANAQSIRO_UPDATE);
+    const uint64_t answer = anaqsiro_may(block, sizeof block, PLANNER, REQUESTS, ANAQSIRO_UPDATE, ANAQSIRO_ORDINARY);
     printf("  may release: %s\n", anaqsiro_value(answer) ? "yes" : "no");
 }
 

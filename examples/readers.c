@@ -76,7 +76,9 @@ static uint32_t change(uint8_t (*messages)[ANAQSIRO_MESSAGE], size_t how_many) {
 
 /* Whether the planner may release the purchase requests. */
 static uint32_t may(const struct copy *copy, uint64_t planner) {
-    return anaqsiro_value(anaqsiro_may(copy->block, sizeof copy->block, planner, REQUESTS, ANAQSIRO_UPDATE));
+    const uint64_t answer =
+        anaqsiro_may(copy->block, sizeof copy->block, planner, REQUESTS, ANAQSIRO_UPDATE, ANAQSIRO_ORDINARY);
+    return anaqsiro_value(answer);
 }
 
 /* A reader: counts, in a number of its own, how often it sees two planners with the right, or none. */

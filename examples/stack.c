@@ -1,9 +1,9 @@
 /* How many bytes of stack each call takes: it is made on a stack of our own that was painted beforehand, and the deepest byte
  * that lost its paint is looked for. The blocks are such that each call goes as deep as it can: a chain of 40 records for the
- * questions, with X in the one that a chain may end with, a count of five digits for the text, for the messages one that inserts
- * and one that puts back what it took, with 64 pairs in a half of the wide ones, for the moves lists of 256 appointments. The calls
- * by a directory are made on the same blocks. It fails where a call takes more than LIMIT, or gives another number than it is to: a
- * call that is refused too early takes little. */
+ * questions, with X in the one that a chain may end with and a denial at the end of both chains, a count of five digits for the
+ * text, for the messages one that inserts and one that puts back what it took, with 64 pairs in a half of the wide ones, for the
+ * moves lists of 256 appointments. Questions are asked in both profiles. The calls by a directory are made on the same blocks. It
+ * fails where a call takes more than LIMIT, or gives another number than it is to: a call that is refused too early takes little. */
 #define _GNU_SOURCE
 #include "anaqsiro.h"
 
@@ -22,7 +22,7 @@
 enum { KEY = 900, FAR = 1000 };
 
 static uint8_t stack[1u << 18];
-static uint8_t block[ANAQSIRO_BLOCK_MIN + (CHAIN + 4 + PAIRS) * ANAQSIRO_RECORD];
+static uint8_t block[ANAQSIRO_BLOCK_MIN + (CHAIN + 5 + PAIRS) * ANAQSIRO_RECORD];
 static uint16_t directory[ANAQSIRO_DIRECTORY_LENGTH];
 static uint8_t out[4096];
 static const uint8_t text[] = "1;M65535R2;7;MRUPmrup65535";
@@ -73,8 +73,12 @@ static void put_move(uint64_t from, uint64_t to, unsigned january, unsigned febr
 static uint64_t call_make(void) { return anaqsiro_make(block, sizeof block); }
 static uint64_t call_message(void) { return anaqsiro_message(block, sizeof block, update, sizeof update); }
 static uint64_t call_wide(void) { return anaqsiro_wide(block, sizeof block, wide_update, wide_length); }
-static uint64_t call_rights(void) { return anaqsiro_rights(block, sizeof block, 1, 1, ANAQSIRO_ALL); }
-static uint64_t call_may(void) { return anaqsiro_may(block, sizeof block, 1, 1, ANAQSIRO_CREATE); }
+static uint64_t call_rights(void) { return anaqsiro_rights(block, sizeof block, 1, 1, ANAQSIRO_ALL, ANAQSIRO_ORDINARY); }
+static uint64_t call_rights_strict(void) {
+    return anaqsiro_rights(block, sizeof block, 1, 1, ANAQSIRO_ALL, ANAQSIRO_STRICT);
+}
+static uint64_t call_may(void) { return anaqsiro_may(block, sizeof block, 1, 1, ANAQSIRO_CREATE, ANAQSIRO_ORDINARY); }
+static uint64_t call_may_strict(void) { return anaqsiro_may(block, sizeof block, 1, 1, ANAQSIRO_CREATE, ANAQSIRO_STRICT); }
 static uint64_t call_write(void) { return anaqsiro_write(block, sizeof block, ANAQSIRO_PERMISSION, KEY, out, sizeof out); }
 static uint64_t call_read(void) {
     return anaqsiro_read(block, sizeof block, ANAQSIRO_PERMISSION, KEY, text, sizeof text - 1);
@@ -87,10 +91,16 @@ static uint64_t call_wide_by(void) {
     return anaqsiro_wide_by(block, sizeof block, directory, ANAQSIRO_DIRECTORY_LENGTH, wide_update, wide_length);
 }
 static uint64_t call_rights_by(void) {
-    return anaqsiro_rights_by(block, sizeof block, directory, ANAQSIRO_DIRECTORY_LENGTH, 1, 1, ANAQSIRO_ALL);
+    return anaqsiro_rights_by(block, sizeof block, directory, ANAQSIRO_DIRECTORY_LENGTH, 1, 1, ANAQSIRO_ALL, ANAQSIRO_ORDINARY);
+}
+static uint64_t call_rights_by_strict(void) {
+    return anaqsiro_rights_by(block, sizeof block, directory, ANAQSIRO_DIRECTORY_LENGTH, 1, 1, ANAQSIRO_ALL, ANAQSIRO_STRICT);
 }
 static uint64_t call_may_by(void) {
-    return anaqsiro_may_by(block, sizeof block, directory, ANAQSIRO_DIRECTORY_LENGTH, 1, 1, ANAQSIRO_CREATE);
+    return anaqsiro_may_by(block, sizeof block, directory, ANAQSIRO_DIRECTORY_LENGTH, 1, 1, ANAQSIRO_CREATE, ANAQSIRO_ORDINARY);
+}
+static uint64_t call_may_by_strict(void) {
+    return anaqsiro_may_by(block, sizeof block, directory, ANAQSIRO_DIRECTORY_LENGTH, 1, 1, ANAQSIRO_CREATE, ANAQSIRO_STRICT);
 }
 static uint64_t call_write_by(void) {
     return anaqsiro_write_by(block, sizeof block, directory, ANAQSIRO_DIRECTORY_LENGTH, ANAQSIRO_PERMISSION, KEY, out,
@@ -137,7 +147,7 @@ static void measure(const struct named *what, uint32_t number) {
     guest.uc_link = &host;
     makecontext(&guest, run, 0);
     swapcontext(&host, &guest);
-    printf("%-20s %6zu bytes of stack (number %u, value %u)\n", what->name, depth, anaqsiro_number(answer),
+    printf("%-26s %6zu bytes of stack (number %u, value %u)\n", what->name, depth, anaqsiro_number(answer),
            anaqsiro_value(answer));
     deepest = depth > deepest ? depth : deepest;
     if (anaqsiro_number(answer) != number) {
@@ -147,14 +157,18 @@ static void measure(const struct named *what, uint32_t number) {
 }
 
 /* The calls of the rules on a block that is there, without a directory and by one; the message and the wide one are the first. */
-enum { CALLS = 6 };
+enum { CALLS = 8 };
 static const struct named without[CALLS] = {
-    {"anaqsiro_message", call_message}, {"anaqsiro_wide", call_wide},     {"anaqsiro_read", call_read},
-    {"anaqsiro_write", call_write},     {"anaqsiro_rights", call_rights}, {"anaqsiro_may", call_may},
+    {"anaqsiro_message", call_message}, {"anaqsiro_wide", call_wide},
+    {"anaqsiro_read", call_read},       {"anaqsiro_write", call_write},
+    {"anaqsiro_rights", call_rights},   {"anaqsiro_rights, strict", call_rights_strict},
+    {"anaqsiro_may", call_may},         {"anaqsiro_may, strict", call_may_strict},
 };
 static const struct named by[CALLS] = {
-    {"anaqsiro_message_by", call_message_by}, {"anaqsiro_wide_by", call_wide_by},     {"anaqsiro_read_by", call_read_by},
-    {"anaqsiro_write_by", call_write_by},     {"anaqsiro_rights_by", call_rights_by}, {"anaqsiro_may_by", call_may_by},
+    {"anaqsiro_message_by", call_message_by}, {"anaqsiro_wide_by", call_wide_by},
+    {"anaqsiro_read_by", call_read_by},       {"anaqsiro_write_by", call_write_by},
+    {"anaqsiro_rights_by", call_rights_by},   {"anaqsiro_rights_by, strict", call_rights_by_strict},
+    {"anaqsiro_may_by", call_may_by},         {"anaqsiro_may_by, strict", call_may_by_strict},
 };
 
 static const struct named move = {"anaqsiro_move", call_move};
@@ -167,13 +181,15 @@ static const struct named others[] = {
     {"anaqsiro_make", call_make},
 };
 
-/* Makes the block a chain of records with a grant to its first name on itself, and its directory. She is bound, and let in. */
+/* Makes the block a chain of records with a grant to its first name on itself, and its directory. She is bound, and let in. One
+ * right is denied where her chain and the object's end, so that the others are still held in the strict profile. */
 static void make_chain(void) {
     anaqsiro_make(block, sizeof block);
     for (unsigned name = 1; name <= CHAIN; name++) {
         add(ANAQSIRO_MEMBERSHIP, name, name + 1, name == LAST ? ANAQSIRO_ALL | ANAQSIRO_X : ANAQSIRO_ALL);
     }
     add(ANAQSIRO_PERMISSION, 1, 1, ANAQSIRO_ALL);
+    add(ANAQSIRO_PERMISSION, LAST + 1, LAST + 1, ANAQSIRO_NO_DELETE);
     call_directory();
 }
 

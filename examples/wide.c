@@ -41,7 +41,7 @@ static void print_orders(const char *who, uint64_t name) {
     unsigned orders = 0;
     printf("  %s may release", who);
     for (uint64_t order = FIRST_ORDER; order < FIRST_ORDER + ORDERS; order++) {
-        if (anaqsiro_value(anaqsiro_may(block, sizeof block, name, order, ANAQSIRO_UPDATE))) {
+        if (anaqsiro_value(anaqsiro_may(block, sizeof block, name, order, ANAQSIRO_UPDATE, ANAQSIRO_ORDINARY))) {
             printf(" %u", (unsigned)order);
             orders++;
         }

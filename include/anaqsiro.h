@@ -15,8 +15,13 @@
  *   anaqsiro_held of what anaqsiro_rights gives, which are 0 for every refusal. Test anaqsiro_number of what anaqsiro_read
  *   gives, whose value may be a place, and of what anaqsiro_day and anaqsiro_next_change give, where the 0 of a refusal would be
  *   taken for 1 January 1970, or for no change any more.
- * - DENIALS DO NOT REACH ACROSS RECORDS. "No read" takes read out of the one permission record that it stands in; another one
- *   may still give it, to a group of the same user or on a group of the same object.
+ * - A QUESTION HAS A PROFILE SINCE 0.8, AS ITS LAST ARGUMENT. Compile every file again that calls anaqsiro_rights, anaqsiro_may or
+ *   one of the two by a directory. One that was compiled with a header of 0.7 is linked without a word, and its questions are
+ *   answered by whatever number stands where the profile should be. The other way, an archive of 0.7 passes the profile over, and
+ *   answers every question in the ordinary one.
+ * - IN THE ORDINARY PROFILE DENIALS DO NOT REACH ACROSS RECORDS. "No read" takes read out of the one permission record that it
+ *   stands in; another one may still give it, to a group of the same user or on a group of the same object. Who wants a denial to
+ *   win over every grant asks in the strict profile.
  * - A BLOCK OF 0.4 OR BEFORE IS NOT ONE OF 0.5 OR AFTER. Its records have 20 bytes and these 24. It is refused with 2, unless it
  *   has no record. Take it over by the texts of its sets.
  * - A CHANGE WITHOUT THE DIRECTORY LEAVES IT BEHIND. Who keeps one changes the block by anaqsiro_message_by, anaqsiro_wide_by
@@ -46,11 +51,11 @@ extern "C" {
 /* The version of this header and its archive. The formats of what a host keeps are part of it: as long as the first two numbers
  * are the same, a block, a message, a text or a list of appointments of one version is good for the other and means the same
  * there, and every call is made and answers as before. Where any of this changes, or a program over the Rust crate has to, the
- * second number rises; where something is only added that no host keeps, the third. What is here of 0.6 only adds to 0.5, and
- * what is here of 0.7 to 0.6: a host in C or C++ needs no change. */
-#define ANAQSIRO_VERSION "0.7.0"
+ * second number rises; where something is only added that no host keeps, the third. In 0.8 the four questions take a profile, so a
+ * host in C or C++ has to be changed in each of them and compiled again; what a host keeps is as in 0.7. */
+#define ANAQSIRO_VERSION "0.8.0"
 #define ANAQSIRO_VERSION_MAJOR 0
-#define ANAQSIRO_VERSION_MINOR 7
+#define ANAQSIRO_VERSION_MINOR 8
 #define ANAQSIRO_VERSION_PATCH 0
 
 /* ---- numbers of the rules */
@@ -173,6 +178,25 @@ enum anaqsiro_letter {
  * rights and markers they have, reaches one of her groups. A membership record with marker counts alone gives no chain of any
  * kind and no group. */
 
+/* How far a denial reaches. A permission record is reached for a right where a chain of 0 to 32 memberships, each of which carries
+ * the right, leads from the user to the record's id, and such a chain from the object to its key, or the key is 0. A record that is
+ * reached for a right grants it if it counts the capital letter and not the small one. So in both profiles a denial takes its right
+ * out of the record that it stands in. What it does to the grants of other records is the profile's:
+ *
+ * - Ordinary: nothing.
+ * - Strict: it bars them all. A right is barred where a record that is reached for it counts its small letter, whatever the capital
+ *   one counts. A record that is reached for other rights alone, as over a membership that does not carry this one, does not bar
+ *   it. A denial on 0 bars on every object.
+ *
+ * A right is held where some record grants it, every filter that binds the object has it, the object is open to the user if she is
+ * bound, and, in the strict profile, it is not barred. Filters and markers have no part in what is barred. So whatever is held in
+ * the strict profile is held in the ordinary one, too. A profile belongs to the question: the block does not know it, and may be
+ * asked in both. */
+enum anaqsiro_profile {
+    ANAQSIRO_ORDINARY = 0, /* a denial takes its right out of the record that it stands in */
+    ANAQSIRO_STRICT = 1    /* a denial that is reached wins over every grant */
+};
+
 /* The letters as a text has them, in the order of their masks. A letter's number is its place here, 0 for M to 9 for N; its
  * mask is 2 to that number. */
 #define ANAQSIRO_SPELLED "MRUPmrupXN"
@@ -191,7 +215,8 @@ enum anaqsiro_number {
     ANAQSIRO_TEXT = 9,
     ANAQSIRO_TEXT_LONG = 10,
     ANAQSIRO_OUTSIDE_RANGE = 12,
-    ANAQSIRO_DIRECTORY_NOT_OWN = 13
+    ANAQSIRO_DIRECTORY_NOT_OWN = 13,
+    ANAQSIRO_PROFILE = 15
 };
 
 /* ---- the calls */
@@ -209,18 +234,18 @@ uint64_t anaqsiro_message(uint8_t *block, size_t len, const uint8_t *message, si
  * is refused with 3, as a wide one is by anaqsiro_message. Numbers 0 to 8. Value 0. */
 uint64_t anaqsiro_wide(uint8_t *block, size_t len, const uint8_t *message, size_t message_len);
 
-/* The rights that the user holds on the object, of those requested, and the number of membership records examined, one for the
- * user's side and one for the object's. A name's mark in round n is the set of rights that some chain of at most n records
- * carries to it; in round 0 the start, which is the user or the object, has all four, the others none, and before round 0
+/* The rights that the user holds on the object in the profile, of those requested, and the number of membership records examined,
+ * one for the user's side and one for the object's. A name's mark in round n is the set of rights that some chain of at most n
+ * records carries to it; in round 0 the start, which is the user or the object, has all four, the others none, and before round 0
  * nobody has any. The number is, summed over rounds 0 to 31, the membership records whose key's mark differs from the round
- * before. It is at most four times the membership records. Request, filters and markers have no part in it. A user who is bound,
- * and to whom the object is not open, holds none. Numbers 0, 1, 2, 4, 5. Value: the rights + 2^4 * the records examined on the
- * user's side + 2^18 * those on the object's; anaqsiro_held, anaqsiro_user_examined and anaqsiro_object_examined take the answer
- * apart. */
-uint64_t anaqsiro_rights(const uint8_t *block, size_t len, uint64_t user, uint64_t object, uint64_t request);
+ * before. It is at most four times the membership records. Request, profile, filters and markers have no part in it. A user who is
+ * bound, and to whom the object is not open, holds none. Numbers 0, 1, 2, 4, 5, 15. Value: the rights + 2^4 * the records examined
+ * on the user's side + 2^18 * those on the object's; anaqsiro_held, anaqsiro_user_examined and anaqsiro_object_examined take the
+ * answer apart. */
+uint64_t anaqsiro_rights(const uint8_t *block, size_t len, uint64_t user, uint64_t object, uint64_t request, uint64_t profile);
 
-/* Whether the user holds every right requested. Numbers 0, 1, 2, 4, 5. Value: 1 for yes, 0 for no. */
-uint64_t anaqsiro_may(const uint8_t *block, size_t len, uint64_t user, uint64_t object, uint64_t request);
+/* Whether the user holds every right requested, in the profile. Numbers 0, 1, 2, 4, 5, 15. Value: 1 for yes, 0 for no. */
+uint64_t anaqsiro_may(const uint8_t *block, size_t len, uint64_t user, uint64_t object, uint64_t request, uint64_t profile);
 
 /* Writes the records of one kind and key as text at the front of out, and touches no other byte. Numbers 0, 1, 2, 3, 4, 10.
  * Value: the length of the text. */
@@ -265,13 +290,13 @@ uint64_t anaqsiro_message_by(uint8_t *block, size_t len, uint16_t *directory, si
 uint64_t anaqsiro_wide_by(uint8_t *block, size_t len, uint16_t *directory, size_t directory_len, const uint8_t *message,
                           size_t message_len);
 
-/* What anaqsiro_rights answers. Numbers 0, 1, 2, 13, 4, 5. Value: as there, and taken apart in the same way. */
+/* What anaqsiro_rights answers. Numbers 0, 1, 2, 13, 4, 5, 15. Value: as there, and taken apart in the same way. */
 uint64_t anaqsiro_rights_by(const uint8_t *block, size_t len, const uint16_t *directory, size_t directory_len, uint64_t user,
-                            uint64_t object, uint64_t request);
+                            uint64_t object, uint64_t request, uint64_t profile);
 
-/* What anaqsiro_may answers. Numbers 0, 1, 2, 13, 4, 5. Value: 1 for yes, 0 for no. */
+/* What anaqsiro_may answers. Numbers 0, 1, 2, 13, 4, 5, 15. Value: 1 for yes, 0 for no. */
 uint64_t anaqsiro_may_by(const uint8_t *block, size_t len, const uint16_t *directory, size_t directory_len, uint64_t user,
-                         uint64_t object, uint64_t request);
+                         uint64_t object, uint64_t request, uint64_t profile);
 
 /* Writes a set as text as anaqsiro_write does, and touches no other byte. Numbers 0, 1, 2, 13, 3, 4, 10. Value: the length of
  * the text. */
@@ -405,6 +430,7 @@ static inline const char *anaqsiro_refusal_text(uint64_t number) {
     case ANAQSIRO_OUTSIDE_RANGE:
         return "a 257th appointment, a date that is none, or a day, date, term or anniversary outside the range";
     case ANAQSIRO_DIRECTORY_NOT_OWN: return "the lent directory has the wrong length or is not the block's own";
+    case ANAQSIRO_PROFILE: return "a profile other than ordinary or strict";
     default: return "unknown";
     }
 }

@@ -2,7 +2,7 @@
 
 use crate::letters::{LETTERS, MASKED};
 use crate::refusal::{done, how_many, yes};
-use crate::{raw, Held, Kind, Name, Refusal, Rights, NAMES};
+use crate::{raw, Held, Kind, Name, Profile, Refusal, Rights, NAMES};
 use std::fmt;
 
 /// A block of bytes that holds an index.
@@ -124,31 +124,36 @@ impl Block {
         done(unsafe { raw::anaqsiro_wide(self.bytes.as_mut_ptr(), self.bytes.len(), message.as_ptr(), message.len()) })
     }
 
-    /// The rights that the user holds on the object, of those requested, and how many membership records were examined on each
-    /// side. A user whom a [`Marker`](crate::Marker) binds holds none on what is in some group and in none of hers.
+    /// The rights that the user holds on the object in the profile, of those requested, and how many membership records were
+    /// examined on each side, which is the same in both profiles. A user whom a [`Marker`](crate::Marker) binds holds none on what
+    /// is in some group and in none of hers.
     ///
     /// ```
-    /// use anaqsiro::{Block, Kind, Rights};
+    /// use anaqsiro::{Block, Kind, Profile, Rights};
     ///
     /// let mut block = Block::with_room(8)?;
     /// block.read_set(Kind::Membership, 1, "2;MRUP")?; // 1 is a member of 2
     /// block.read_set(Kind::Membership, 2, "3;R")?; // 2 is a member of 3, for reading
     /// block.read_set(Kind::Permission, 9, "3;RU")?; // 3 may read and update 9
-    /// let held = block.rights(1, 9, Rights::ALL)?;
+    /// let held = block.rights(1, 9, Rights::ALL, Profile::Ordinary)?;
     /// assert_eq!(held.rights, Rights::READ);
     /// assert_eq!((held.user_examined, held.object_examined), (2, 0));
     /// # Ok::<(), anaqsiro::Refusal>(())
     /// ```
-    pub fn rights(&self, user: Name, object: Name, request: Rights) -> Result<Held, Refusal> {
-        let (block, length, request) = (self.bytes.as_ptr(), self.bytes.len(), request.mask().into());
-        // SAFETY: the pointer and the length are those of one slice, which the call only reads.
-        Held::from_answer(unsafe { raw::anaqsiro_rights(block, length, user, object, request) })
+    pub fn rights(&self, user: Name, object: Name, request: Rights, profile: Profile) -> Result<Held, Refusal> {
+        Held::from_answer(self.asked(raw::anaqsiro_rights, user, object, request, profile))
     }
 
-    /// Whether the user holds every right requested on the object.
-    pub fn may(&self, user: Name, object: Name, request: Rights) -> Result<bool, Refusal> {
+    /// Whether the user holds every right requested on the object, in the profile.
+    pub fn may(&self, user: Name, object: Name, request: Rights, profile: Profile) -> Result<bool, Refusal> {
+        yes(self.asked(raw::anaqsiro_may, user, object, request, profile))
+    }
+
+    /// What a question answers.
+    fn asked(&self, question: Question, user: Name, object: Name, request: Rights, profile: Profile) -> u64 {
+        let (request, profile) = (request.mask().into(), profile.number().into());
         // SAFETY: the pointer and the length are those of one slice, which the call only reads.
-        yes(unsafe { raw::anaqsiro_may(self.bytes.as_ptr(), self.bytes.len(), user, object, request.mask().into()) })
+        unsafe { question(self.bytes.as_ptr(), self.bytes.len(), user, object, request, profile) }
     }
 
     /// Writes the records of one kind and key as text at the front of `out`, and says how long the text is.
@@ -184,6 +189,9 @@ impl Block {
         how_many(unsafe { raw::anaqsiro_read(self.bytes.as_mut_ptr(), self.bytes.len(), kind, key, text.as_ptr(), text.len()) })
     }
 }
+
+/// A question, as C has it.
+type Question = unsafe extern "C" fn(*const u8, usize, u64, u64, u64, u64) -> u64;
 
 /// The text that a call writes, in a buffer that is made longer until the text fits.
 pub(crate) fn whole_text(write: impl Fn(&mut [u8]) -> Result<usize, Refusal>) -> Result<String, Refusal> {

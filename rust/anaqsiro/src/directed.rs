@@ -2,7 +2,7 @@
 
 use crate::block::whole_text;
 use crate::refusal::{done, how_many, yes};
-use crate::{raw, Block, Held, Kind, Name, Refusal, Rights, NAMES};
+use crate::{raw, Block, Held, Kind, Name, Profile, Refusal, Rights, NAMES};
 use std::fmt;
 
 /// A block with its directory, so that a question need not search for the records of a key. Messages and sets by it search as
@@ -18,20 +18,20 @@ use std::fmt;
 /// not come apart. No answer needs a directory. It is for hosts that ask much of large blocks.
 ///
 /// ```
-/// use anaqsiro::{Block, Half, Kind, Message, Refusal, Rights};
+/// use anaqsiro::{Block, Half, Kind, Message, Profile, Refusal, Rights};
 ///
 /// // Load the block first, and make the directory once after it.
 /// let mut block = Block::with_room(8)?;
 /// block.read_set(Kind::Membership, 1, "2;MRUP")?;
 /// block.read_set(Kind::Permission, 9, "2;RU")?;
 /// let mut directed = block.with_directory()?;
-/// assert!(directed.may(1, 9, Rights::UPDATE)?);
+/// assert!(directed.may(1, 9, Rights::UPDATE, Profile::Ordinary)?);
 ///
 /// // Then change both together.
 /// directed.apply(Message::new(Kind::Permission, None, Some(Half::new(10, 2, Rights::UPDATE))))?;
-/// assert!(directed.may(1, 10, Rights::UPDATE)?);
+/// assert!(directed.may(1, 10, Rights::UPDATE, Profile::Ordinary)?);
 /// assert_eq!(directed.directory(), directed.block().clone().with_directory()?.directory());
-/// assert_eq!(directed.rights(1, 1_024, Rights::ALL), Err(Refusal::Name));
+/// assert_eq!(directed.rights(1, 1_024, Rights::ALL, Profile::Ordinary), Err(Refusal::Name));
 /// # Ok::<(), anaqsiro::Refusal>(())
 /// ```
 #[derive(Clone, PartialEq, Eq)]
@@ -155,14 +155,14 @@ impl DirectedBlock {
         self.changed(raw::anaqsiro_wide_by, message.as_ref())
     }
 
-    /// The rights that the user holds on the object, as [`Block::rights`] answers.
-    pub fn rights(&self, user: Name, object: Name, request: Rights) -> Result<Held, Refusal> {
-        Held::from_answer(self.asked(raw::anaqsiro_rights_by, user, object, request))
+    /// The rights that the user holds on the object in the profile, as [`Block::rights`] answers.
+    pub fn rights(&self, user: Name, object: Name, request: Rights, profile: Profile) -> Result<Held, Refusal> {
+        Held::from_answer(self.asked(raw::anaqsiro_rights_by, user, object, request, profile))
     }
 
-    /// Whether the user holds every right requested on the object, as [`Block::may`] answers.
-    pub fn may(&self, user: Name, object: Name, request: Rights) -> Result<bool, Refusal> {
-        yes(self.asked(raw::anaqsiro_may_by, user, object, request))
+    /// Whether the user holds every right requested on the object, in the profile, as [`Block::may`] answers.
+    pub fn may(&self, user: Name, object: Name, request: Rights, profile: Profile) -> Result<bool, Refusal> {
+        yes(self.asked(raw::anaqsiro_may_by, user, object, request, profile))
     }
 
     /// Writes the records of one kind and key as text at the front of `out`, as [`Block::write_set`] does.
@@ -207,10 +207,11 @@ impl DirectedBlock {
     }
 
     /// What a question answers.
-    fn asked(&self, question: Question, user: Name, object: Name, request: Rights) -> u64 {
-        let (block, directory, request) = (self.block.bytes(), self.directory(), request.mask().into());
+    fn asked(&self, question: Question, user: Name, object: Name, request: Rights, profile: Profile) -> u64 {
+        let (block, directory) = (self.block.bytes(), self.directory());
+        let (request, profile) = (request.mask().into(), profile.number().into());
         // SAFETY: each pointer and length are those of one slice, which the call only reads.
-        unsafe { question(block.as_ptr(), block.len(), directory.as_ptr(), directory.len(), user, object, request) }
+        unsafe { question(block.as_ptr(), block.len(), directory.as_ptr(), directory.len(), user, object, request, profile) }
     }
 }
 
@@ -218,7 +219,7 @@ impl DirectedBlock {
 type Change = unsafe extern "C" fn(*mut u8, usize, *mut u16, usize, *const u8, usize) -> u64;
 
 /// A question by a directory, as C has it.
-type Question = unsafe extern "C" fn(*const u8, usize, *const u16, usize, u64, u64, u64) -> u64;
+type Question = unsafe extern "C" fn(*const u8, usize, *const u16, usize, u64, u64, u64, u64) -> u64;
 
 /// The block. The directory follows from it.
 impl fmt::Debug for DirectedBlock {

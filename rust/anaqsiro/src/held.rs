@@ -10,17 +10,17 @@ use crate::{Block, Refusal, Rights};
 /// A name's mark in round n is the set of rights that some chain of at most n records carries to it; in round 0 the start,
 /// which is the user or the object, has all four, the others none, and before round 0 nobody has any. The number is, summed
 /// over rounds 0 to 31, the membership records whose key's mark differs from the round before. It is at most four times the
-/// membership records. Request, filters and markers have no part in it.
+/// membership records. Request, profile, filters and markers have no part in it.
 ///
 /// ```
-/// use anaqsiro::{Block, Kind, Rights};
+/// use anaqsiro::{Block, Kind, Profile, Rights};
 ///
 /// // Each right comes to 2, 3, 4 and 5 in a round of its own.
 /// let mut block = Block::with_room(8)?;
 /// for (name, groups) in (1..).zip(["2;M;3;R;4;U;5;P", "3;MRUP", "4;MRUP", "5;MRUP", "2;MRUP"]) {
 ///     block.read_set(Kind::Membership, name, groups)?;
 /// }
-/// let held = block.rights(1, 9, Rights::READ)?;
+/// let held = block.rights(1, 9, Rights::READ, Profile::Ordinary)?;
 /// assert_eq!(held.user_examined, 4 + 4 * 4); // the records of 1 once, the others four times
 /// assert_eq!(held.object_examined, 0); // 9 is a member of no group
 /// assert_eq!(held.rights, Rights::NONE);
@@ -28,7 +28,7 @@ use crate::{Block, Refusal, Rights};
 /// ```
 #[derive(Clone, Copy, Debug, PartialEq, Eq, Hash)]
 pub struct Held {
-    /// The rights held, of those requested.
+    /// The rights held, of those requested, in the profile of the question.
     pub rights: Rights,
     /// How many membership records were examined on the user's side.
     pub user_examined: u32,
@@ -80,6 +80,7 @@ mod tests {
     fn a_refusal_reports_nothing() {
         assert_eq!(Held::from_answer(1 << 32), Err(Refusal::BlockLength));
         assert_eq!(Held::from_answer(5 << 32), Err(Refusal::Mask));
+        assert_eq!(Held::from_answer(15 << 32), Err(Refusal::Profile));
         assert_eq!(Held::from_answer(u64::MAX), Err(Refusal::Unknown(u32::MAX)));
     }
 }

@@ -15,7 +15,7 @@ use std::fmt;
 /// rises by one with each message of the statement, from 1. It holds the early message back:
 ///
 /// ```
-/// use anaqsiro::{Half, Kind, Ledger, Rights, Taken, Why};
+/// use anaqsiro::{Half, Kind, Ledger, Profile, Rights, Taken, Why};
 ///
 /// // Where the appointments are made, each message gets its sequence number.
 /// let mut office = Ledger::with_room(8)?;
@@ -30,10 +30,10 @@ use std::fmt;
 /// plant.take("first", first.sequence, first.message)?;
 /// let early = plant.take("second", ended.sequence, ended.message)?;
 /// assert_eq!(early, Taken::HeldBack(Why::Early));
-/// assert!(plant.block().may(1, 9, Rights::UPDATE)?); // the first appointment still stands
+/// assert!(plant.block().may(1, 9, Rights::UPDATE, Profile::Ordinary)?); // the first appointment still stands
 /// let late = plant.take("second", second.sequence, second.message)?;
 /// assert_eq!(late, Taken::Applied { released: 1 });
-/// assert!(plant.block().may(1, 9, Rights::UPDATE)?);
+/// assert!(plant.block().may(1, 9, Rights::UPDATE, Profile::Ordinary)?);
 /// assert_eq!(plant.block(), office.block()); // the same block, byte for byte
 /// # Ok::<(), Box<dyn std::error::Error>>(())
 /// ```
@@ -49,7 +49,7 @@ use std::fmt;
 /// plain half is the list of one.
 ///
 /// ```
-/// use anaqsiro::{Half, Kind, Ledger, Rights, Sent, WideHalf};
+/// use anaqsiro::{Half, Kind, Ledger, Profile, Rights, Sent, WideHalf};
 ///
 /// let mut ledger = Ledger::with_room(8)?;
 /// let four = WideHalf::new([20, 21], [1, 2], Rights::UPDATE)?;
@@ -59,7 +59,7 @@ use std::fmt;
 /// assert_eq!(fewer.message.to_string(), "P, from keys 20 21, ids 1 2, U to key 20, id 1, U");
 /// let ended = ledger.say("planner", Kind::Permission, None)?;
 /// assert!(matches!((fewer.message, ended.message), (Sent::Wide(_), Sent::Plain(_))));
-/// assert!(ledger.block().may(2, 21, Rights::UPDATE)?); // the foreman's still stands
+/// assert!(ledger.block().may(2, 21, Rights::UPDATE, Profile::Ordinary)?); // the foreman's still stands
 /// assert_eq!(ledger.block().records()?.len(), 1);
 /// # Ok::<(), Box<dyn std::error::Error>>(())
 /// ```
@@ -477,15 +477,15 @@ impl<L: Ord> Ledger<L> {
     /// [`Taken::Repeated`].
     ///
     /// ```
-    /// use anaqsiro::{Half, Kind, Ledger, Message, Rights, Taken};
+    /// use anaqsiro::{Half, Kind, Ledger, Message, Profile, Rights, Taken};
     ///
     /// let half = |rights| Some(Half::new(9, 1, rights));
     /// let mut ledger = Ledger::with_room(8)?;
     /// let third = Message::new(Kind::Permission, half(Rights::READ), half(Rights::UPDATE));
     /// ledger.take("first", 3, third)?;
-    /// assert_eq!(ledger.block().rights(1, 9, Rights::ALL)?.rights, Rights::NONE);
+    /// assert_eq!(ledger.block().rights(1, 9, Rights::ALL, Profile::Ordinary)?.rights, Rights::NONE);
     /// assert_eq!(ledger.skip("first")?, 1); // the first and the second were lost
-    /// assert_eq!(ledger.block().rights(1, 9, Rights::ALL)?.rights, Rights::UPDATE);
+    /// assert_eq!(ledger.block().rights(1, 9, Rights::ALL, Profile::Ordinary)?.rights, Rights::UPDATE);
     /// let second = Message::new(Kind::Permission, half(Rights::CREATE), half(Rights::READ));
     /// assert_eq!(ledger.take("first", 2, second)?, Taken::Repeated);
     /// # Ok::<(), Box<dyn std::error::Error>>(())

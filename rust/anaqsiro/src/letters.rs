@@ -83,7 +83,7 @@ impl std::error::Error for NotLetters {}
 /// which a chain of 0 to 32 memberships, whatever rights and markers they have, leads to one of her groups.
 ///
 /// ```
-/// use anaqsiro::{Block, Half, Kind, Marker, Message, Rights};
+/// use anaqsiro::{Block, Half, Kind, Marker, Message, Profile, Rights};
 ///
 /// let mut block = Block::with_room(8)?;
 /// let (anna, firm, other_firm) = (1, 2, 3);
@@ -94,9 +94,9 @@ impl std::error::Error for NotLetters {}
 ///     block.read_set(Kind::Membership, pump, format!("{group};MRUP"))?;
 /// }
 /// block.read_set(Kind::Permission, 0, "1;RU")?; // Anna may read and update everything
-/// assert!(block.may(anna, 9, Rights::UPDATE)?);
-/// assert!(!block.may(anna, 10, Rights::UPDATE)?); // it is the other firm's
-/// assert!(block.may(anna, 11, Rights::UPDATE)?); // it is in no group
+/// assert!(block.may(anna, 9, Rights::UPDATE, Profile::Ordinary)?);
+/// assert!(!block.may(anna, 10, Rights::UPDATE, Profile::Ordinary)?); // it is the other firm's
+/// assert!(block.may(anna, 11, Rights::UPDATE, Profile::Ordinary)?); // it is in no group
 /// # Ok::<(), anaqsiro::Refusal>(())
 /// ```
 #[derive(Clone, Copy, Debug, PartialEq, Eq, PartialOrd, Ord, Hash)]

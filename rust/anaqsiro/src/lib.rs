@@ -2,7 +2,7 @@
 //! statements give is still held when one of them is withdrawn.
 //!
 //! ```
-//! use anaqsiro::{Block, Half, Kind, Message, Rights};
+//! use anaqsiro::{Block, Half, Kind, Message, Profile, Rights};
 //!
 //! let mut block = Block::with_room(8)?;
 //! let may_release = Half::new(9, 1, Rights::UPDATE);
@@ -10,7 +10,7 @@
 //! block.apply(give)?;
 //! block.apply(give)?; // a second appointment gives the same right
 //! block.apply(Message::new(Kind::Permission, Some(may_release), None))?; // the first ends
-//! assert!(block.may(1, 9, Rights::UPDATE)?);
+//! assert!(block.may(1, 9, Rights::UPDATE, Profile::Ordinary)?);
 //! assert_eq!(block.set_text(Kind::Permission, 9)?, "1;U");
 //! # Ok::<(), anaqsiro::Refusal>(())
 //! ```
@@ -19,12 +19,12 @@
 //! nothing has changed:
 //!
 //! ```
-//! use anaqsiro::{Block, Refusal, Rights};
+//! use anaqsiro::{Block, Profile, Refusal, Rights};
 //!
 //! let block = Block::from_bytes(vec![0; 40]);
-//! assert_eq!(block.rights(1, 9, Rights::ALL), Err(Refusal::BlockNotGood));
+//! assert_eq!(block.rights(1, 9, Rights::ALL, Profile::Strict), Err(Refusal::BlockNotGood));
 //! let block = Block::with_room(0)?;
-//! assert_eq!(block.rights(65_537, 9, Rights::ALL), Err(Refusal::Name));
+//! assert_eq!(block.rights(65_537, 9, Rights::ALL, Profile::Strict), Err(Refusal::Name));
 //! # Ok::<(), anaqsiro::Refusal>(())
 //! ```
 //!
@@ -38,6 +38,7 @@
 //! - [`Roster`]: such a list with the day on which a block has it. Use it where memberships begin and end by the calendar.
 //! - [`Rights`] and [`Letters`]: what a question asks for, and what a message gives or denies.
 //! - [`Marker`]: how firms that share one installation are kept apart.
+//! - [`Profile`]: how far a denial reaches. Every question says in which it is asked.
 //! - [`Held`]: what the full question answers: the rights, and how many memberships were examined on each side.
 //!
 //! The answers of the block are those of the archive, which is proved; this crate around it is tested.
@@ -51,6 +52,7 @@ mod held;
 mod ledger;
 mod letters;
 mod message;
+mod profile;
 pub mod raw;
 mod records;
 mod refusal;
@@ -68,6 +70,7 @@ pub use held::Held;
 pub use ledger::{Ledger, NotTaken, Said, Statement, Taken, Waiting, Why};
 pub use letters::{Letters, Marker, NotLetters, Rights};
 pub use message::{Half, Kind, Message, Name, NAMES};
+pub use profile::Profile;
 pub use records::{Record, Records};
 pub use refusal::Refusal;
 pub use roster::Roster;

@@ -41,6 +41,9 @@ pub enum Refusal {
     OutsideRange,
     /// 13: the lent directory has the wrong length or is not the block's own.
     DirectoryNotOwn,
+    /// 15: a profile other than ordinary or strict. A [`Profile`](crate::Profile) is one of the two, so that no safe call is refused
+    /// so; the [C interface](crate::raw), which takes any number, is.
+    Profile,
     /// A number that this crate has no name for: the archive is newer than the crate.
     Unknown(u32),
 }
@@ -64,6 +67,7 @@ impl Refusal {
             10 => Refusal::TextLong,
             12 => Refusal::OutsideRange,
             13 => Refusal::DirectoryNotOwn,
+            15 => Refusal::Profile,
             _ => Refusal::Unknown(number),
         })
     }
@@ -83,6 +87,7 @@ impl Refusal {
             Refusal::TextLong => 10,
             Refusal::OutsideRange => 12,
             Refusal::DirectoryNotOwn => 13,
+            Refusal::Profile => 15,
             Refusal::Unknown(number) => number,
         }
     }
@@ -114,6 +119,7 @@ impl fmt::Display for Refusal {
                 "a 257th appointment, a date that is none, or a day, date, term or anniversary outside the range"
             }
             Refusal::DirectoryNotOwn => "the lent directory has the wrong length or is not the block's own",
+            Refusal::Profile => "a profile other than ordinary or strict",
             Refusal::Unknown(_) => "not a number of this version",
         };
         write!(f, "refused with {}: {why}", self.number())?;
@@ -164,6 +170,8 @@ mod tests {
         assert_eq!(answer(11 << 32 | 5), Err(Refusal::Unknown(11)));
         assert_eq!(answer(12 << 32), Err(Refusal::OutsideRange));
         assert_eq!(answer(13 << 32), Err(Refusal::DirectoryNotOwn));
+        assert_eq!(answer(14 << 32), Err(Refusal::Unknown(14)));
+        assert_eq!(answer(15 << 32), Err(Refusal::Profile));
         assert_eq!(answer(u64::MAX), Err(Refusal::Unknown(u32::MAX)));
     }
 
@@ -171,6 +179,7 @@ mod tests {
     fn an_answer_says_what_it_is_to_say() {
         assert_eq!((done(0), done(13 << 32)), (Ok(()), Err(Refusal::DirectoryNotOwn)));
         assert_eq!((yes(0), yes(1), yes(4 << 32)), (Ok(false), Ok(true), Err(Refusal::Name)));
+        assert_eq!((yes(15 << 32), Refusal::Profile.number()), (Err(Refusal::Profile), 15));
         assert_eq!((how_many(1_000), how_many(9 << 32 | 3)), (Ok(1_000), Err(Refusal::Text { place: 3 })));
     }
 }

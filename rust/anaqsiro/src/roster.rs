@@ -11,7 +11,7 @@ use crate::{Appointments, Block, Date, DirectedBlock, Ledger, Refusal};
 /// that day. A roster belongs to one block, and is stored with it.
 ///
 /// ```
-/// use anaqsiro::{Appointment, Appointments, Block, Date, Half, Kind, Refusal, Rights, Roster};
+/// use anaqsiro::{Appointment, Appointments, Block, Date, Half, Kind, Profile, Refusal, Rights, Roster};
 ///
 /// let (planner, planners, order) = (1, 2, 9);
 /// let mut block = Block::with_room(8)?;
@@ -26,11 +26,11 @@ use crate::{Appointments, Block, Date, DirectedBlock, Ledger, Refusal};
 /// let next = roster.next_change().expect("one ends");
 /// assert_eq!(next, Date::new(2025, 2, 28)?);
 /// block.go_to(&mut roster, next)?;
-/// assert!(block.may(planner, order, Rights::READ)?); // the other still stands
+/// assert!(block.may(planner, order, Rights::READ, Profile::Ordinary)?); // the other still stands
 ///
 /// let next = roster.next_change().expect("the other ends");
 /// block.go_to(&mut roster, next)?;
-/// assert!(!block.may(planner, order, Rights::READ)?);
+/// assert!(!block.may(planner, order, Rights::READ, Profile::Ordinary)?);
 /// assert_eq!((roster.day(), roster.next_change()), (Date::new(2025, 6, 1)?, None));
 /// # Ok::<(), Refusal>(())
 /// ```

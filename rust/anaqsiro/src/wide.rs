@@ -177,14 +177,14 @@ impl fmt::Display for WideHalf {
 /// added.
 ///
 /// ```
-/// use anaqsiro::{Block, Kind, Refusal, Rights, WideHalf, WideMessage};
+/// use anaqsiro::{Block, Kind, Profile, Refusal, Rights, WideHalf, WideMessage};
 ///
 /// let mut block = Block::with_room(8)?;
 /// let four = WideHalf::new([20, 21], [1, 2], Rights::UPDATE)?;
 /// let message = WideMessage::new(Kind::Permission, None, Some(four));
 /// assert_eq!(message.to_string(), "P, from nothing to keys 20 21, ids 1 2, U");
 /// block.apply_wide(message)?;
-/// assert!(block.may(2, 21, Rights::UPDATE)?);
+/// assert!(block.may(2, 21, Rights::UPDATE, Profile::Ordinary)?);
 ///
 /// // One of these pairs is not there: the message is refused, and nothing has changed.
 /// let six = WideHalf::new([20, 21, 22], [1, 2], Rights::UPDATE)?;

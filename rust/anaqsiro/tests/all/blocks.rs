@@ -1,6 +1,6 @@
 //! The block: its calls, its records, its room.
 
-use anaqsiro::{Block, Half, Kind, Letters, Marker, Message, Name, Record, Refusal, Rights, NAMES};
+use anaqsiro::{Block, Half, Kind, Letters, Marker, Message, Name, Profile, Record, Refusal, Rights, NAMES};
 use second::gen::{self, Rng};
 use second::{Index, ALL, LETTERS, MARKERS, RIGHTS};
 use std::thread;
@@ -15,9 +15,9 @@ fn length(room: usize) -> usize {
     Block::SHORTEST + Block::RECORD * room
 }
 
-/// The rights that a user holds on 9.
+/// The rights that a user holds on 9, where no denial reaches across records.
 fn held(block: &Block, user: Name) -> Rights {
-    block.rights(user, 9, Rights::ALL).expect("a good block").rights
+    block.rights(user, 9, Rights::ALL, Profile::Ordinary).expect("a good block").rights
 }
 
 #[test]
@@ -75,7 +75,7 @@ fn denials_stay_in_their_record() {
     block.apply(Message::new(Kind::Permission, None, half(2, Letters::CREATE))).expect("room");
     block.apply(Message::new(Kind::Membership, None, Some(Half::new(1, 2, Rights::ALL)))).expect("room");
     assert_eq!((held(&block, 1), held(&block, 2)), (Rights::ALL, Rights::CREATE));
-    assert_eq!(block.rights(2, 9, Rights::NONE), Err(Refusal::Mask));
+    assert_eq!(block.rights(2, 9, Rights::NONE, Profile::Ordinary), Err(Refusal::Mask));
 }
 
 /// Every three masks of filters, two on the object and one on its group, a mask of 0 for no filter: each binds.
@@ -229,14 +229,17 @@ fn firms_are_kept_apart() {
     for (user, open) in [(1, [5, 8]), (2, [6, 8])] {
         for object in 5..9 {
             let wanted = Ok(open.contains(&object));
-            assert_eq!(block.may(user, object, Rights::READ), wanted, "{user} {object}");
-            assert_eq!(directed.may(user, object, Rights::READ), wanted, "{user} {object}");
+            for profile in Profile::ALL {
+                assert_eq!(block.may(user, object, Rights::READ, profile), wanted, "{user} {object}");
+                assert_eq!(directed.may(user, object, Rights::READ, profile), wanted, "{user} {object}");
+            }
         }
     }
-    assert!((3..5).all(|user| (5..9).all(|object| block.may(user, object, Rights::READ) == Ok(true))));
+    let may_read = |block: &Block, user, object| block.may(user, object, Rights::READ, Profile::Ordinary) == Ok(true);
+    assert!((3..5).all(|user| (5..9).all(|object| may_read(&block, user, object))));
     let taken = Message::new(Kind::Membership, Some(half(1, 20).marked(Marker::X)), Some(half(1, 20).marked(Marker::N)));
     block.apply(taken).expect("it stands");
-    assert!((5..9).all(|object| block.may(1, object, Rights::READ) == Ok(true)), "bound no more");
+    assert!((5..9).all(|object| may_read(&block, 1, object)), "bound no more");
 }
 
 /// The records that name a name, as key, as id, as both: those that the second program finds, and each way is met.
@@ -292,7 +295,8 @@ fn threads_share_nothing() {
             let kind = [Kind::Membership, Kind::Permission][n as usize % 2];
             let _ = block.apply(Message::new(kind, previous, new));
         }
-        let answers: Vec<_> = (0..81).map(|n| block.rights(n / 9, n % 9, Rights::ALL)).collect();
+        let profile = |n: u64| Profile::ALL[n as usize % 2];
+        let answers: Vec<_> = (0..162).map(|n| block.rights(n / 18, n / 2 % 9, Rights::ALL, profile(n))).collect();
         (block, answers)
     };
     let alone: Vec<_> = (0..4).map(history).collect();

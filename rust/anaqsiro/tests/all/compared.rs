@@ -1,12 +1,13 @@
 //! The safe calls, held against the second program as the archive is.
 
-use anaqsiro::{raw, Appointment, Appointments, Block, Date, DirectedBlock, Held, Kind, Record, Refusal, Rights, Roster};
+use anaqsiro::{raw, Appointment, Appointments, Block, Date, DirectedBlock, Held, Kind, Profile, Record, Refusal};
+use anaqsiro::{Rights, Roster};
 use second::drive::{self, run, Library};
 use second::LETTERS;
 
 /// The safe calls where the comparison wants a library. What they have no words for goes to the archive itself: a kind that is
-/// none, a request that is not of rights, a record that there is not, the records of a block that is not good, a place for a
-/// directory that is too long or too short, and a move over a wrong list or with a day that is none.
+/// none, a request that is not of rights, a profile that there is not, a record that there is not, the records of a block that is
+/// not good, a place for a directory that is too long or too short, and a move over a wrong list or with a day that is none.
 struct Safe;
 
 /// An answer put together again.
@@ -85,19 +86,19 @@ impl Library for Safe {
         on(block, |block| block.apply_wide(message).map(|()| 0))
     }
 
-    fn rights(&self, block: &[u8], user: u64, object: u64, request: u64) -> u64 {
+    fn rights(&self, block: &[u8], user: u64, object: u64, request: u64, profile: u64) -> u64 {
         let safe = Block::from_bytes(block.to_vec());
-        match Rights::from_mask(request) {
-            Some(request) => packed(safe.rights(user, object, request).map(value_of)),
-            None => unsafe { raw::anaqsiro_rights(block.as_ptr(), block.len(), user, object, request) },
+        match (Rights::from_mask(request), Profile::from_number(profile)) {
+            (Some(request), Some(profile)) => packed(safe.rights(user, object, request, profile).map(value_of)),
+            _ => unsafe { raw::anaqsiro_rights(block.as_ptr(), block.len(), user, object, request, profile) },
         }
     }
 
-    fn may(&self, block: &[u8], user: u64, object: u64, request: u64) -> u64 {
+    fn may(&self, block: &[u8], user: u64, object: u64, request: u64, profile: u64) -> u64 {
         let safe = Block::from_bytes(block.to_vec());
-        match Rights::from_mask(request) {
-            Some(request) => packed(safe.may(user, object, request).map(usize::from)),
-            None => unsafe { raw::anaqsiro_may(block.as_ptr(), block.len(), user, object, request) },
+        match (Rights::from_mask(request), Profile::from_number(profile)) {
+            (Some(request), Some(profile)) => packed(safe.may(user, object, request, profile).map(usize::from)),
+            _ => unsafe { raw::anaqsiro_may(block.as_ptr(), block.len(), user, object, request, profile) },
         }
     }
 
@@ -162,23 +163,23 @@ impl Library for Safe {
         on_both(block, directory, |both| both.apply_wide(message).map(|()| 0))
     }
 
-    fn rights_by(&self, block: &[u8], directory: &[u16], user: u64, object: u64, request: u64) -> u64 {
-        let (numbers, length) = (directory.as_ptr(), directory.len());
-        match Rights::from_mask(request) {
-            Some(request) => {
-                packed(directed(block, directory).and_then(|both| both.rights(user, object, request).map(value_of)))
+    fn rights_by(&self, block: &[u8], directory: &[u16], user: u64, object: u64, request: u64, profile: u64) -> u64 {
+        let (bytes, len, numbers, length) = (block.as_ptr(), block.len(), directory.as_ptr(), directory.len());
+        match (Rights::from_mask(request), Profile::from_number(profile)) {
+            (Some(request), Some(profile)) => {
+                packed(directed(block, directory).and_then(|both| both.rights(user, object, request, profile).map(value_of)))
             }
-            None => unsafe { raw::anaqsiro_rights_by(block.as_ptr(), block.len(), numbers, length, user, object, request) },
+            _ => unsafe { raw::anaqsiro_rights_by(bytes, len, numbers, length, user, object, request, profile) },
         }
     }
 
-    fn may_by(&self, block: &[u8], directory: &[u16], user: u64, object: u64, request: u64) -> u64 {
-        let (numbers, length) = (directory.as_ptr(), directory.len());
-        match Rights::from_mask(request) {
-            Some(request) => {
-                packed(directed(block, directory).and_then(|both| both.may(user, object, request).map(usize::from)))
+    fn may_by(&self, block: &[u8], directory: &[u16], user: u64, object: u64, request: u64, profile: u64) -> u64 {
+        let (bytes, len, numbers, length) = (block.as_ptr(), block.len(), directory.as_ptr(), directory.len());
+        match (Rights::from_mask(request), Profile::from_number(profile)) {
+            (Some(request), Some(profile)) => {
+                packed(directed(block, directory).and_then(|both| both.may(user, object, request, profile).map(usize::from)))
             }
-            None => unsafe { raw::anaqsiro_may_by(block.as_ptr(), block.len(), numbers, length, user, object, request) },
+            _ => unsafe { raw::anaqsiro_may_by(bytes, len, numbers, length, user, object, request, profile) },
         }
     }
 

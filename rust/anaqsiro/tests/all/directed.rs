@@ -1,8 +1,8 @@
 //! A block with its directory: the entries, the calls, and that the two stay together.
 
 use crate::blocks::with_room;
-use anaqsiro::{Block, DirectedBlock, Half, Held, Kind, Letters, Marker, Message, Name, NotDirected, Refusal, Rights};
-use anaqsiro::{Sent, WideHalf, WideMessage, NAMES};
+use anaqsiro::{Block, DirectedBlock, Half, Held, Kind, Letters, Marker, Message, Name, NotDirected, Profile, Refusal};
+use anaqsiro::{Rights, Sent, WideHalf, WideMessage, NAMES};
 use second::gen::Rng;
 use std::panic::{catch_unwind, AssertUnwindSafe};
 use std::thread;
@@ -185,6 +185,8 @@ fn the_two_stay_together() {
 /// What is asked and written by the directory is what is asked and written without it.
 #[test]
 fn questions_and_texts_are_the_same() {
+    let requests = [Rights::NONE, Rights::READ, Rights::ALL];
+    let asked = requests.into_iter().flat_map(|request| Profile::ALL.map(|profile| (request, profile)));
     let mut held = 0;
     for seed in 0..40 {
         let mut rng = Rng(seed);
@@ -194,10 +196,10 @@ fn questions_and_texts_are_the_same() {
         }
         let block = directed.block();
         for (user, object) in (0..7).flat_map(|user| [0, 1, 2, 3, 4, 5, 700, 1_023, 1_024].map(|object| (user, object))) {
-            for request in [Rights::NONE, Rights::READ, Rights::ALL] {
-                assert_eq!(directed.rights(user, object, request), block.rights(user, object, request));
-                assert_eq!(directed.may(user, object, request), block.may(user, object, request));
-                held += usize::from(directed.may(user, object, request) == Ok(true));
+            for (request, profile) in asked.clone() {
+                assert_eq!(directed.rights(user, object, request, profile), block.rights(user, object, request, profile));
+                assert_eq!(directed.may(user, object, request, profile), block.may(user, object, request, profile));
+                held += usize::from(directed.may(user, object, request, profile) == Ok(true));
             }
             for kind in Kind::ALL {
                 assert_eq!(directed.set_text(kind, object), block.set_text(kind, object));
@@ -231,9 +233,9 @@ fn a_block_is_cleared_with_its_directory() {
         assert_eq!((directed.clear(), block.clear()), (Ok(()), Ok(())));
         assert_eq!(directed.block(), &block);
         assert_eq!(directed.directory(), own(&block));
-        assert_eq!(directed.may(1, 9, Rights::UPDATE), Ok(false));
+        assert_eq!(directed.may(1, 9, Rights::UPDATE, Profile::Ordinary), Ok(false));
         assert_eq!(directed.read_set(Kind::Permission, 9, "1;U"), Ok(1));
-        assert_eq!(directed.may(1, 9, Rights::UPDATE), Ok(true));
+        assert_eq!(directed.may(1, 9, Rights::UPDATE, Profile::Ordinary), Ok(true));
     }
 }
 
@@ -255,23 +257,23 @@ fn a_panic_leaves_both_as_they_were() {
     assert_eq!(directed, with_directory(mill()));
 }
 
-/// What each user holds on each object, by what answers the question.
-fn all_held(rights: impl Fn(Name, Name, Rights) -> Result<Held, Refusal>) -> Vec<Held> {
+/// What each user holds on each object in each profile, by what answers the question.
+fn all_held(rights: impl Fn(Name, Name, Profile) -> Result<Held, Refusal>) -> Vec<[Held; 2]> {
     let pairs = (0..NAMES).step_by(11).chain([1]).flat_map(|user| (0..20).map(move |object| (user, object)));
-    pairs.map(|(user, object)| rights(user, object, Rights::ALL).expect("names and a request")).collect()
+    pairs.map(|(user, object)| Profile::ALL.map(|profile| rights(user, object, profile).expect("names"))).collect()
 }
 
 /// Several threads may ask one, as they may a block, and another may take it over. Each hears what the block alone answers.
 #[test]
 fn threads_share_it() {
     let (block, directed) = (mill(), with_directory(mill()));
-    let alone = all_held(|user, object, request| block.rights(user, object, request));
-    let by = |directed: &DirectedBlock| all_held(|user, object, request| directed.rights(user, object, request));
+    let alone = all_held(|user, object, profile| block.rights(user, object, Rights::ALL, profile));
+    let by = |directed: &DirectedBlock| all_held(|user, object, profile| directed.rights(user, object, Rights::ALL, profile));
     let together = thread::scope(|scope| {
         let threads = [0, 1].map(|_| scope.spawn(|| by(&directed)));
         threads.map(|thread| thread.join().expect("no panic"))
     });
-    assert!(alone.iter().any(|held| held.rights == Rights::READ | Rights::UPDATE));
+    assert!(alone.iter().flatten().any(|held| held.rights == Rights::READ | Rights::UPDATE));
     assert_eq!(together, [alone.clone(), alone.clone()]);
     assert_eq!(thread::spawn(move || by(&directed)).join().expect("no panic"), alone);
 }

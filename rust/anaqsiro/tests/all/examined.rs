@@ -1,7 +1,7 @@
 //! How many membership records a question examines.
 
 use crate::blocks::with_room;
-use anaqsiro::{raw, Block, Held, Kind, Name, Refusal, Rights};
+use anaqsiro::{raw, Block, Held, Kind, Name, Profile, Refusal, Rights};
 use second::ALL;
 
 /// The groups of the names 1 to 5: each right comes to 2, 3, 4 and 5 in a round of its own.
@@ -16,10 +16,14 @@ fn with_groups<T: AsRef<[u8]>>(groups: impl IntoIterator<Item = (Name, T)>) -> B
     block
 }
 
-/// How many are examined on the user's side and on the object's.
+/// How many are examined on the user's side and on the object's, which is the same in both profiles.
 fn examined(block: &Block, user: Name, object: Name) -> (u32, u32) {
-    let held = block.rights(user, object, Rights::ALL).expect("a good block");
-    (held.user_examined, held.object_examined)
+    let [ordinary, strict] = Profile::ALL.map(|profile| {
+        let held = block.rights(user, object, Rights::ALL, profile).expect("a good block");
+        (held.user_examined, held.object_examined)
+    });
+    assert_eq!(ordinary, strict);
+    ordinary
 }
 
 /// A record is examined once for each round in which its key gains rights.
@@ -53,24 +57,25 @@ fn name_0_is_examined_where_it_is_reached() {
     assert_eq!(examined(&block, 0, 0), (2, 2));
 }
 
-/// Every request gets the same numbers, before and after there are permissions and filters.
+/// Every request gets the same numbers in each profile, before and after there are permissions, denials and filters.
 #[test]
-fn request_permissions_and_filters_have_no_part_in_it() {
+fn request_profile_permissions_and_filters_have_no_part_in_it() {
     let mut block = with_groups(IN_TURN.into_iter().chain([(9, "1;R")]));
-    let answered = |block: &Block, held: Rights| {
-        for mask in 1..=ALL {
-            let request = Rights::from_mask(mask).expect("rights");
-            let wanted = Held { rights: held & request, user_examined: 20, object_examined: 9 };
-            assert_eq!(block.rights(1, 9, request), Ok(wanted));
+    let answered = |block: &Block, held: [Rights; 2]| {
+        for request in (1..=ALL).filter_map(Rights::from_mask) {
+            let wanted = held.map(|held| Ok(Held { rights: held & request, user_examined: 20, object_examined: 9 }));
+            assert_eq!(Profile::ALL.map(|profile| block.rights(1, 9, request, profile)), wanted);
         }
     };
-    answered(&block, Rights::NONE);
+    answered(&block, [Rights::NONE; 2]);
     block.read_set(Kind::Permission, 9, "5;MRUP").expect("room");
-    answered(&block, Rights::ALL);
+    answered(&block, [Rights::ALL; 2]);
+    block.read_set(Kind::Permission, 1, "2;r").expect("room");
+    answered(&block, [Rights::ALL, Rights::ALL.without(Rights::READ)]);
     block.read_set(Kind::Filter, 9, "20;RU").expect("room");
-    answered(&block, Rights::READ | Rights::UPDATE);
+    answered(&block, [Rights::READ | Rights::UPDATE, Rights::UPDATE]);
     block.read_set(Kind::Filter, 1, "20;MP").expect("room");
-    answered(&block, Rights::NONE);
+    answered(&block, [Rights::NONE; 2]);
 }
 
 /// A full block of which nearly every record is examined four times on both sides.
@@ -88,12 +93,12 @@ fn the_numbers_of_a_full_block_fit() {
 #[test]
 fn a_refused_question_reports_nothing() {
     let block = with_groups(IN_TURN);
-    let asked = |length, object, request| {
+    let asked = |(length, object, request, profile)| {
         // SAFETY: no length is above that of the block.
-        unsafe { raw::anaqsiro_rights(block.bytes().as_ptr(), length, 1, object, request) }
+        unsafe { raw::anaqsiro_rights(block.bytes().as_ptr(), length, 1, object, request, profile) }
     };
     let (short, part, whole) = (Block::SHORTEST - 1, Block::SHORTEST + Block::RECORD, block.bytes().len());
-    let refused = [asked(short, 9, ALL), asked(part, 9, ALL), asked(whole, 1024, ALL), asked(whole, 9, ALL + 1)];
-    assert_eq!(refused, [1, 2, 4, 5].map(|number| number << 32));
-    assert_eq!(block.rights(1, 1024, Rights::ALL), Err(Refusal::Name));
+    let refused = [(short, 9, ALL, 0), (part, 9, ALL, 1), (whole, 1024, ALL, 0), (whole, 9, ALL + 1, 1), (whole, 9, ALL, 2)];
+    assert_eq!(refused.map(asked), [1, 2, 4, 5, 15].map(|number| number << 32));
+    assert_eq!(block.rights(1, 1024, Rights::ALL, Profile::Strict), Err(Refusal::Name));
 }

@@ -1,7 +1,7 @@
 //! The ledger, case by case.
 
-use anaqsiro::{Block, Half, Kind, Ledger, Letters, Marker, Message, NotTaken, Refusal, Rights, Said, Sent, Statement, Taken};
-use anaqsiro::{Why, WideHalf, WideMessage};
+use anaqsiro::{Block, Half, Kind, Ledger, Letters, Marker, Message, NotTaken, Profile, Refusal, Rights, Said, Sent};
+use anaqsiro::{Statement, Taken, Why, WideHalf, WideMessage};
 use second::drive::packed;
 use second::gen::{self, Rng};
 
@@ -48,7 +48,7 @@ fn the_end_of_the_second_appointment_comes_before_its_start() {
     let (start, end) = (message("", "U"), message("U", ""));
     let mut ledger = with_room(8);
     let mut alone = ledger.block().clone();
-    let may = |block: &Block| block.may(1, 9, Rights::UPDATE).expect("good");
+    let may = |block: &Block| block.may(1, 9, Rights::UPDATE, Profile::Ordinary).expect("good");
     let steps = [("first", 1, start, APPLIED), ("second", 2, end, EARLY), ("second", 1, start, Taken::Applied { released: 1 })];
     let mut seen = Vec::new();
     for (label, number, message, taken) in steps {

@@ -10,6 +10,7 @@ mod examined;
 mod ledgers;
 mod letters;
 mod messages;
+mod profiles;
 mod rosters;
 mod saved;
 mod streams;

@@ -1,6 +1,6 @@
 //! Kinds, halves, messages and refusals.
 
-use anaqsiro::{Appointment, Appointments, Block, Half, Kind, Letters, Marker, Message, Refusal, Rights, NAMES};
+use anaqsiro::{Appointment, Appointments, Block, Half, Kind, Letters, Marker, Message, Profile, Refusal, Rights, NAMES};
 use second::drive::packed;
 
 /// The refusal of a number and a value.
@@ -10,14 +10,14 @@ fn refusal(number: u32, value: u32) -> Option<Refusal> {
 
 #[test]
 fn every_refusal_has_its_number() {
-    for number in (1..=10).chain([12, 13]) {
+    for number in (1..=10).chain([12, 13, 15]) {
         let named = refusal(number, 0).expect("a refusal");
         assert_eq!(named.number(), number);
         assert!(!matches!(named, Refusal::Unknown(_)));
         assert_eq!(refusal(number, 3) == Some(named), number != 9, "of a text alone the value is told");
     }
     assert_eq!([refusal(0, 0), refusal(0, 9)], [None, None]);
-    for number in [11, 14, u32::MAX] {
+    for number in [11, 14, 16, u32::MAX] {
         assert_eq!(refusal(number, 7), Some(Refusal::Unknown(number)));
         assert_eq!(Refusal::Unknown(number).number(), number);
     }
@@ -25,6 +25,7 @@ fn every_refusal_has_its_number() {
         Refusal::NoRoom.to_string(),
         "refused with 8: after taking away (or removing the old set), the records do not fit"
     );
+    assert_eq!(Refusal::Profile.to_string(), "refused with 15: a profile other than ordinary or strict");
     assert_eq!(Refusal::Unknown(99).to_string(), "refused with 99: not a number of this version");
 }
 
@@ -134,8 +135,10 @@ fn a_name_is_not_cut() {
             block.apply(Message::new(Kind::Permission, Some(Half::new(name, 1, Rights::READ)), None)),
             Err(Refusal::Name)
         );
-        assert_eq!(block.rights(name, 1, Rights::ALL), Err(Refusal::Name));
-        assert_eq!(block.may(1, name, Rights::READ), Err(Refusal::Name));
+        for profile in Profile::ALL {
+            assert_eq!(block.rights(name, 1, Rights::ALL, profile), Err(Refusal::Name));
+            assert_eq!(block.may(1, name, Rights::READ, profile), Err(Refusal::Name));
+        }
         assert_eq!(block.set_text(Kind::Permission, name), Err(Refusal::Name));
         assert_eq!(block.read_set(Kind::Permission, name, "1;R"), Err(Refusal::Name));
         assert_eq!(block.mentions(name).err(), Some(Refusal::Name));

@@ -3,7 +3,7 @@
 use crate::appointments::{date, list, some};
 use crate::blocks::with_room;
 use anaqsiro::{
-    Appointment, Appointments, Block, Date, Half, Kind, Ledger, Message, NotTaken, Refusal, Rights, Roster, Taken, Why,
+    Appointment, Appointments, Block, Date, Half, Kind, Ledger, Message, NotTaken, Profile, Refusal, Rights, Roster, Taken, Why,
 };
 use second::gen::Rng;
 
@@ -185,7 +185,7 @@ fn a_move_makes_room_for_what_waits() {
     assert_eq!(ledger.take("grant", 1, grant), Ok(Taken::HeldBack(Why::Refused(Refusal::NoRoom))));
     let next = roster.next_change().expect("it ends");
     assert_eq!(ledger.go_to(&mut roster, next), Ok(1));
-    assert!(ledger.block().may(1, 9, Rights::UPDATE).expect("good"));
+    assert!(ledger.block().may(1, 9, Rights::UPDATE, Profile::Ordinary).expect("good"));
     assert_eq!(ledger.go_to(&mut roster, date(2024, 2, 29)), Err(Refusal::NoRoom));
     ledger.say("grant", Kind::Permission, None).expect("it stands");
     assert_eq!(ledger.go_to(&mut roster, date(2024, 2, 29)), Ok(0));
