@@ -2,18 +2,20 @@
 //! objects of two archives, as `tools/ratios` makes them: the first is then the library, in place of the archive that is linked,
 //! and the second is timed beside it. Their records may have different lengths: each program's blocks are made by its own calls, as
 //! long as its own records want them, and the test of a block is told by the byte too. The calls by a directory have tables of
-//! their own, in which each stands beside the call without it, and so have blocks with markers, for programs that know them, wide
-//! messages, each beside its pairs as plain messages, for programs that take them, and moves of appointments, each beside its changes
-//! as plain messages, for programs that have them.
+//! their own, in which each stands beside the call without it, and so have blocks with markers, for programs that know them, questions
+//! in the strict profile, each beside the same one in the ordinary profile, for programs that have profiles, wide messages, each
+//! beside its pairs as plain messages, for programs that take them, and moves of appointments, each beside its changes as plain
+//! messages, for programs that have them. All other questions are asked in the ordinary profile, which is the only one of an archive
+//! without profiles.
 //!
 //! Each figure is the median over several rounds of some milliseconds of the processor's time; in a round each program does the
 //! same calls, in turn, on a block that its own calls have made. Buffers are warm: each call works on what the call before left.
 
 use compare::Archive;
 use plain::{half_at, Plain, ALL, CHAIN, ENTRIES, HEADER, MARKED, MASK, MESSAGE, NAMES, NEW, OLD, RECORD, ROOM};
-use second::drive::{Library, TEXT};
+use second::drive::{packed, Library, TEXT};
 use second::gen::Rng;
-use second::{Counts, Index, Part, M, RIGHTS};
+use second::{Counts, Index, Part, M, ORDINARY, RIGHTS, STRICT};
 use std::collections::BTreeSet;
 use std::env::var;
 use std::ffi::c_int;
@@ -23,6 +25,7 @@ use std::ops::Range;
 
 mod appointments;
 mod firms;
+mod strict;
 mod wide;
 
 const ROUNDS: usize = 31;
@@ -55,12 +58,13 @@ const SMALL: Size = Size(10, 5, 2, 4);
 const MILL: Size = Size(1258, 200, 40, 20);
 const FULL: Size = Size(1500, 500, 45, 3);
 
-/// A program that is timed, with its block, the block's directory if the calls go by it, a buffer for texts, and whether it is to
-/// send the pairs of a wide message, or the changes of a move, one by one as plain messages.
+/// A program that is timed, with its block, the block's directory if the calls go by it, the profile in which it is asked, a buffer
+/// for texts, and whether it is to send the pairs of a wide message, or the changes of a move, one by one as plain messages.
 struct Runner<'a> {
     library: &'a dyn Library,
     block: Vec<u8>,
     directory: Option<Vec<u16>>,
+    profile: u64,
     out: Vec<u8>,
     one_by_one: bool,
 }
@@ -69,7 +73,7 @@ struct Runner<'a> {
 impl<'a> Runner<'a> {
     /// A program whose calls go without a directory.
     fn without(library: &'a dyn Library, block: Vec<u8>) -> Runner<'a> {
-        Runner { library, block, directory: None, out: vec![0; TEXT], one_by_one: false }
+        Runner { library, block, directory: None, profile: ORDINARY, out: vec![0; TEXT], one_by_one: false }
     }
 
     /// A program whose calls go by the directory, which it makes.
@@ -95,15 +99,15 @@ impl<'a> Runner<'a> {
 
     fn rights(&self, user: u64, object: u64) -> u64 {
         match &self.directory {
-            Some(directory) => self.library.rights_by(&self.block, directory, user, object, ALL.into()),
-            None => self.library.rights(&self.block, user, object, ALL.into()),
+            Some(directory) => self.library.rights_by(&self.block, directory, user, object, ALL.into(), self.profile),
+            None => self.library.rights(&self.block, user, object, ALL.into(), self.profile),
         }
     }
 
     fn may(&self, user: u64, object: u64) -> u64 {
         match &self.directory {
-            Some(directory) => self.library.may_by(&self.block, directory, user, object, READ.into()),
-            None => self.library.may(&self.block, user, object, READ.into()),
+            Some(directory) => self.library.may_by(&self.block, directory, user, object, READ.into(), self.profile),
+            None => self.library.may(&self.block, user, object, READ.into(), self.profile),
         }
     }
 
@@ -149,6 +153,11 @@ fn record_of(library: &dyn Library) -> usize {
     assert_eq!(library.make(&mut one), 0);
     assert_eq!(library.message(&mut one, &message(NEW, MEMBERSHIP, 1, 1, READ.into())), 0);
     word(&one, HEADER - 2) - HEADER
+}
+
+/// Whether a program has profiles: it refuses a number that is none. One without them passes over the number.
+fn has_profiles(library: &dyn Library) -> bool {
+    library.rights(&empty(library, 0), 0, 0, ALL.into(), STRICT + 1) == packed(15, 0)
 }
 
 /// An empty block of a program with room for so many records, as long as the program's own records are.
@@ -295,10 +304,11 @@ fn ratio(rounds: &[Vec<f64>], one: usize, other: usize) -> f64 {
 /// The programs that are timed: the library first, then the plain program, then the archive from before, if there is one.
 struct Programs {
     all: Vec<Box<dyn Library>>,
-    /// How many of them, the first ones, have the calls by a directory, how many know markers, how many take wide messages, and how
-    /// many have the calls of appointments.
+    /// How many of them, the first ones, have the calls by a directory, how many know markers, how many have profiles, how many take
+    /// wide messages, and how many have the calls of appointments.
     directed: usize,
     marked: usize,
+    profiled: usize,
     wide: usize,
     appointed: usize,
     /// How many of them are timed.
@@ -327,7 +337,8 @@ impl Programs {
             appointed += known("anaqsiro_move");
         }
         let marked = all.iter().take_while(|library| record_of(library.as_ref()) == RECORD).count();
-        Ok(Programs { timed: all.len(), all, directed, marked, wide, appointed, by: false })
+        let profiled = all.iter().take_while(|library| has_profiles(library.as_ref())).count();
+        Ok(Programs { timed: all.len(), all, directed, marked, profiled, wide, appointed, by: false })
     }
 
     /// Each program with a block of its own, made by the function given. Where the calls go by a directory, the library without
@@ -340,6 +351,16 @@ impl Programs {
         let first = self.all[0].as_ref();
         let by = all.take(self.directed).map(|library| Runner::by(library, made(library)));
         [Runner::without(first, made(first))].into_iter().chain(by).collect()
+    }
+
+    /// The library alone with a block of its own, by a directory if the calls go by one.
+    fn library_with(&self, made: impl Fn(&dyn Library) -> Vec<u8>) -> Runner<'_> {
+        let library = self.all[0].as_ref();
+        if self.by {
+            Runner::by(library, made(library))
+        } else {
+            Runner::without(library, made(library))
+        }
     }
 
     /// The ways to ask: one that is refused once the tests are done, and the two questions.
@@ -728,11 +749,13 @@ fn main() -> Result<(), String> {
     growth(&programs, "reached, of 1,800", &reached, |number| Reach { own: number / 4, others: 900 - number / 2 });
     lookups();
     firms::tables(&mut programs);
+    strict::tables(&mut programs);
     wide::tables(&mut programs);
     appointments::tables(&mut programs);
     programs.by = true;
     tables(&programs);
     firms::tables(&mut programs);
+    strict::tables(&mut programs);
     wide::tables(&mut programs);
     Ok(())
 }

@@ -73,9 +73,7 @@ fn with_pairs(library: &dyn Library, size: &Size, more: usize, pairs: impl Itera
 /// Times messages in turn, that give this number, and prints the line of it. The library that sends the pairs comes last.
 fn line(programs: &Programs, what: &str, sent: &[Sent], number: u32, made: impl Fn(&dyn Library) -> Vec<u8>) {
     let mut runners = programs.with(&made);
-    let library = programs.all[0].as_ref();
-    let pairs = if programs.by { Runner::by(library, made(library)) } else { Runner::without(library, made(library)) };
-    runners.push(Runner { one_by_one: true, ..pairs });
+    runners.push(Runner { one_by_one: true, ..programs.library_with(&made) });
     for one in sent {
         let answers = runners.iter_mut().filter_map(|runner| one.to(runner)).collect::<Vec<_>>();
         assert!(answers.iter().all(|&answer| answer == packed(number, 0)), "{what}: {answers:?}");

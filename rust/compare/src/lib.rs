@@ -58,10 +58,11 @@ macro_rules! functions {
                 Archive { $($field: raw::$name),* }
             }
 
-            /// Those of an archive that was made a shared object.
+            /// Those of an archive that was made a shared object. The questions of one from before request M-112 take no profile:
+            /// it is their last argument, and by the conventions of C on these processors they pass over it.
             pub fn loaded(path: &str) -> Result<Archive, String> {
                 let object = open(path)?;
-                // SAFETY: the functions of these names have these types.
+                // SAFETY: the functions of these names have these types, but for a last argument that some do not look at.
                 Ok(unsafe { Archive { $($field: transmute::<*const c_void, $kind>(function(object, stringify!($name)))),* } })
             }
         }
@@ -72,8 +73,8 @@ functions! {
     make = anaqsiro_make: unsafe extern "C" fn(*mut u8, usize) -> u64,
     message = anaqsiro_message: unsafe extern "C" fn(*mut u8, usize, *const u8, usize) -> u64,
     wide = anaqsiro_wide: unsafe extern "C" fn(*mut u8, usize, *const u8, usize) -> u64,
-    rights = anaqsiro_rights: unsafe extern "C" fn(*const u8, usize, u64, u64, u64) -> u64,
-    may = anaqsiro_may: unsafe extern "C" fn(*const u8, usize, u64, u64, u64) -> u64,
+    rights = anaqsiro_rights: unsafe extern "C" fn(*const u8, usize, u64, u64, u64, u64) -> u64,
+    may = anaqsiro_may: unsafe extern "C" fn(*const u8, usize, u64, u64, u64, u64) -> u64,
     write = anaqsiro_write: unsafe extern "C" fn(*const u8, usize, u64, u64, *mut u8, usize) -> u64,
     read = anaqsiro_read: unsafe extern "C" fn(*mut u8, usize, u64, u64, *const u8, usize) -> u64,
     tested = anaqsiro_tested: unsafe extern "C" fn(*const u8, usize) -> u64,
@@ -83,8 +84,8 @@ functions! {
     directory = anaqsiro_directory: unsafe extern "C" fn(*const u8, usize, *mut u16, usize) -> u64,
     message_by = anaqsiro_message_by: unsafe extern "C" fn(*mut u8, usize, *mut u16, usize, *const u8, usize) -> u64,
     wide_by = anaqsiro_wide_by: unsafe extern "C" fn(*mut u8, usize, *mut u16, usize, *const u8, usize) -> u64,
-    rights_by = anaqsiro_rights_by: unsafe extern "C" fn(*const u8, usize, *const u16, usize, u64, u64, u64) -> u64,
-    may_by = anaqsiro_may_by: unsafe extern "C" fn(*const u8, usize, *const u16, usize, u64, u64, u64) -> u64,
+    rights_by = anaqsiro_rights_by: unsafe extern "C" fn(*const u8, usize, *const u16, usize, u64, u64, u64, u64) -> u64,
+    may_by = anaqsiro_may_by: unsafe extern "C" fn(*const u8, usize, *const u16, usize, u64, u64, u64, u64) -> u64,
     write_by = anaqsiro_write_by: unsafe extern "C" fn(*const u8, usize, *const u16, usize, u64, u64, *mut u8, usize) -> u64,
     read_by = anaqsiro_read_by: unsafe extern "C" fn(*mut u8, usize, *mut u16, usize, u64, u64, *const u8, usize) -> u64,
     day = anaqsiro_day: unsafe extern "C" fn(u64, u64, u64) -> u64,
@@ -108,12 +109,12 @@ impl Library for Archive {
         unsafe { (self.wide)(block.as_mut_ptr(), block.len(), message.as_ptr(), message.len()) }
     }
 
-    fn rights(&self, block: &[u8], user: u64, object: u64, request: u64) -> u64 {
-        unsafe { (self.rights)(block.as_ptr(), block.len(), user, object, request) }
+    fn rights(&self, block: &[u8], user: u64, object: u64, request: u64, profile: u64) -> u64 {
+        unsafe { (self.rights)(block.as_ptr(), block.len(), user, object, request, profile) }
     }
 
-    fn may(&self, block: &[u8], user: u64, object: u64, request: u64) -> u64 {
-        unsafe { (self.may)(block.as_ptr(), block.len(), user, object, request) }
+    fn may(&self, block: &[u8], user: u64, object: u64, request: u64, profile: u64) -> u64 {
+        unsafe { (self.may)(block.as_ptr(), block.len(), user, object, request, profile) }
     }
 
     fn write(&self, block: &[u8], kind: u64, key: u64, out: &mut [u8]) -> u64 {
@@ -154,14 +155,14 @@ impl Library for Archive {
         unsafe { (self.wide_by)(block.as_mut_ptr(), block.len(), entries, many, message.as_ptr(), message.len()) }
     }
 
-    fn rights_by(&self, block: &[u8], directory: &[u16], user: u64, object: u64, request: u64) -> u64 {
+    fn rights_by(&self, block: &[u8], directory: &[u16], user: u64, object: u64, request: u64, profile: u64) -> u64 {
         let (entries, many) = (directory.as_ptr(), directory.len());
-        unsafe { (self.rights_by)(block.as_ptr(), block.len(), entries, many, user, object, request) }
+        unsafe { (self.rights_by)(block.as_ptr(), block.len(), entries, many, user, object, request, profile) }
     }
 
-    fn may_by(&self, block: &[u8], directory: &[u16], user: u64, object: u64, request: u64) -> u64 {
+    fn may_by(&self, block: &[u8], directory: &[u16], user: u64, object: u64, request: u64, profile: u64) -> u64 {
         let (entries, many) = (directory.as_ptr(), directory.len());
-        unsafe { (self.may_by)(block.as_ptr(), block.len(), entries, many, user, object, request) }
+        unsafe { (self.may_by)(block.as_ptr(), block.len(), entries, many, user, object, request, profile) }
     }
 
     fn write_by(&self, block: &[u8], directory: &[u16], kind: u64, key: u64, out: &mut [u8]) -> u64 {

@@ -122,16 +122,16 @@ pub fn write_by(b: &[u8], lent: &[u16], kind: u64, key: u64, out: &mut [u8]) -> 
     own(b, lent).map_or_else(|number| (number, 0), |(directory, _)| write_with(b, directory, kind, key, out))
 }
 
-fn question_by<const COUNTED: bool>(b: &[u8], lent: &[u16], user: u64, object: u64, request: u64) -> Answer {
+fn question_by<const COUNTED: bool>(b: &[u8], lent: &[u16], user: u64, object: u64, request: u64, profile: u64) -> Answer {
     let (directory, marked) = own(b, lent)?;
-    let asked = asked(user, object, request)?;
+    let asked = asked(user, object, request, profile)?;
     Ok(answered::<COUNTED>(b, directory, asked, marked))
 }
 
-pub fn rights_by(b: &[u8], lent: &[u16], user: u64, object: u64, request: u64) -> (u32, u32) {
-    full(question_by::<true>(b, lent, user, object, request))
+pub fn rights_by(b: &[u8], lent: &[u16], user: u64, object: u64, request: u64, profile: u64) -> (u32, u32) {
+    full(question_by::<true>(b, lent, user, object, request, profile))
 }
 
-pub fn may_by(b: &[u8], lent: &[u16], user: u64, object: u64, request: u64) -> (u32, u32) {
-    short(question_by::<false>(b, lent, user, object, request), request)
+pub fn may_by(b: &[u8], lent: &[u16], user: u64, object: u64, request: u64, profile: u64) -> (u32, u32) {
+    short(question_by::<false>(b, lent, user, object, request, profile), request)
 }

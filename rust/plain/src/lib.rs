@@ -20,6 +20,9 @@ const LETTERS: [u8; 10] = *b"MRUPmrupXN";
 /// How many of the letters are rights, and the mask of those; the denials follow, and then the markers.
 const RIGHTS: usize = 4;
 pub const ALL: u8 = (1 << RIGHTS) - 1;
+/// The profiles of a question.
+const ORDINARY: u64 = 0;
+const STRICT: u64 = 1;
 const NAME_BITS: usize = 10;
 pub const NAMES: usize = 1 << NAME_BITS;
 pub const CHAIN: usize = 32;
@@ -529,38 +532,39 @@ fn filter(filters: &[Record], look: &impl Look, object: usize, own: &[Record]) -
 /// The rights held of those requested and, if they are to be counted, the numbers of M records examined.
 type Answer = Result<(u8, u32), u32>;
 
-/// A user, an object and a request.
-type Asked = (usize, usize, u8);
+/// A user, an object and a request, and whether the profile is the strict one.
+type Asked = (usize, usize, u8, bool);
 
 /// What is asked, where it can be.
-fn asked(user: u64, object: u64, request: u64) -> Result<Asked, u32> {
+fn asked(user: u64, object: u64, request: u64, profile: u64) -> Result<Asked, u32> {
     if user >= NAMES as u64 || object >= NAMES as u64 {
         return Err(4);
     }
     if request == 0 || request > ALL.into() {
         return Err(5);
     }
-    Ok((user as usize, object as usize, request as u8))
+    if profile != ORDINARY && profile != STRICT {
+        return Err(15);
+    }
+    Ok((user as usize, object as usize, request as u8, profile == STRICT))
 }
 
-fn question<const COUNTED: bool>(b: &[u8], user: u64, object: u64, request: u64) -> Answer {
+fn question<const COUNTED: bool>(b: &[u8], user: u64, object: u64, request: u64, profile: u64) -> Answer {
     let marked = sound(b)?;
-    let asked = asked(user, object, request)?;
+    let asked = asked(user, object, request, profile)?;
     Ok(answered::<COUNTED>(b, &spans(parts(b)[M]), asked, marked))
 }
 
-/// The answer from a good block, where records are looked up in this way. Where no M record counts X, nobody is bound.
-fn answered<const COUNTED: bool>(b: &[u8], look: &impl Look, (user, object, request): Asked, marked: bool) -> (u8, u32) {
-    let [m, p, f] = parts(b);
-    let (start, end) = look.span(object);
-    let limit = filter(f, look, object, &m[start.into()..end.into()]) & request;
-    let mut walk = Walk::new(user, object);
-    walk.go::<COUNTED>(m, look);
-    let marks = &mut walk.marks;
-    marks[0] |= OBJECT;
+/// The rights for which a P record is reached from both sides.
+fn reached(marks: &[u8; NAMES], record: &Record) -> u8 {
+    marks[word(record, 0) % NAMES] >> RIGHTS & marks[word(record, ID) % NAMES]
+}
+
+/// The rights that P records grant, of those in the limit. The search ends where all are found.
+fn granted(records: &[Record], marks: &[u8; NAMES], limit: u8) -> u8 {
     let mut held = 0;
-    for record in p {
-        let reached = marks[word(record, 0) % NAMES] >> RIGHTS & marks[word(record, ID) % NAMES] & limit;
+    for record in records {
+        let reached = reached(marks, record) & limit;
         if reached & !held != 0 {
             held |= reached & net(record);
             if held == limit {
@@ -568,6 +572,42 @@ fn answered<const COUNTED: bool>(b: &[u8], look: &impl Look, (user, object, requ
             }
         }
     }
+    held
+}
+
+/// The rights that P records grant, of those in the limit, and which of those in the limit they leave unbarred. A denial may stand
+/// anywhere, so the search ends only where nothing is left.
+#[inline(never)]
+fn strictly(records: &[Record], marks: &[u8; NAMES], limit: u8) -> (u8, u8) {
+    let (mut held, mut left) = (0, limit);
+    for record in records {
+        let reached = reached(marks, record) & left;
+        if reached != 0 {
+            held |= reached & net(record);
+            left &= !(reached & mask(record, SMALLS));
+            if left == 0 {
+                break;
+            }
+        }
+    }
+    (held, left)
+}
+
+/// The answer from a good block, where records are looked up in this way. Where no M record counts X, nobody is bound.
+fn answered<const COUNTED: bool>(b: &[u8], look: &impl Look, asked: Asked, marked: bool) -> (u8, u32) {
+    let ([m, p, f], (user, object, request, strict)) = (parts(b), asked);
+    let (start, end) = look.span(object);
+    let limit = filter(f, look, object, &m[start.into()..end.into()]) & request;
+    let mut walk = Walk::new(user, object);
+    walk.go::<COUNTED>(m, look);
+    let marks = &mut walk.marks;
+    marks[0] |= OBJECT;
+    let mut held = if strict {
+        let (held, left) = strictly(p, marks, limit);
+        held & left
+    } else {
+        granted(p, marks, limit)
+    };
     if held != 0 && marked && !open(m, look, user, object) {
         held = 0;
     }
@@ -584,12 +624,12 @@ fn short(answer: Answer, request: u64) -> (u32, u32) {
     answer.map_or_else(|n| (n, 0), |(held, _)| (0, (u64::from(held) == request).into()))
 }
 
-pub fn rights(b: &[u8], user: u64, object: u64, request: u64) -> (u32, u32) {
-    full(question::<true>(b, user, object, request))
+pub fn rights(b: &[u8], user: u64, object: u64, request: u64, profile: u64) -> (u32, u32) {
+    full(question::<true>(b, user, object, request, profile))
 }
 
-pub fn may(b: &[u8], user: u64, object: u64, request: u64) -> (u32, u32) {
-    short(question::<false>(b, user, object, request), request)
+pub fn may(b: &[u8], user: u64, object: u64, request: u64, profile: u64) -> (u32, u32) {
+    short(question::<false>(b, user, object, request, profile), request)
 }
 
 fn set_bounds(b: &[u8], keys: &impl Find, kind: u64, key: u64) -> Result<(usize, usize, usize), u32> {
@@ -831,12 +871,12 @@ impl Library for Plain {
         packed(wide(block, bytes), 0)
     }
 
-    fn rights(&self, block: &[u8], user: u64, object: u64, request: u64) -> u64 {
-        both(rights(block, user, object, request))
+    fn rights(&self, block: &[u8], user: u64, object: u64, request: u64, profile: u64) -> u64 {
+        both(rights(block, user, object, request, profile))
     }
 
-    fn may(&self, block: &[u8], user: u64, object: u64, request: u64) -> u64 {
-        both(may(block, user, object, request))
+    fn may(&self, block: &[u8], user: u64, object: u64, request: u64, profile: u64) -> u64 {
+        both(may(block, user, object, request, profile))
     }
 
     fn write(&self, block: &[u8], kind: u64, key: u64, out: &mut [u8]) -> u64 {
@@ -875,12 +915,12 @@ impl Library for Plain {
         packed(wide_by(block, directory, bytes), 0)
     }
 
-    fn rights_by(&self, block: &[u8], directory: &[u16], user: u64, object: u64, request: u64) -> u64 {
-        both(rights_by(block, directory, user, object, request))
+    fn rights_by(&self, block: &[u8], directory: &[u16], user: u64, object: u64, request: u64, profile: u64) -> u64 {
+        both(rights_by(block, directory, user, object, request, profile))
     }
 
-    fn may_by(&self, block: &[u8], directory: &[u16], user: u64, object: u64, request: u64) -> u64 {
-        both(may_by(block, directory, user, object, request))
+    fn may_by(&self, block: &[u8], directory: &[u16], user: u64, object: u64, request: u64, profile: u64) -> u64 {
+        both(may_by(block, directory, user, object, request, profile))
     }
 
     fn write_by(&self, block: &[u8], directory: &[u16], kind: u64, key: u64, out: &mut [u8]) -> u64 {

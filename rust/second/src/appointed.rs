@@ -4,7 +4,7 @@ use super::*;
 use crate::appointments::{decode, encode, read, APPOINTMENT, APPOINTMENTS};
 use crate::calendar::{DATES, DAYS};
 use crate::gen::Rng;
-use crate::tests::{block, empty, said};
+use crate::tests::{block, empty, rights, said};
 
 const LAST_DAY: u64 = DAYS - 1;
 

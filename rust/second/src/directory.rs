@@ -83,11 +83,11 @@ pub fn write_by(block: &[u8], lent: &[u16], kind: u64, key: u64, out: &[u8]) -> 
 }
 
 /// The full question by a directory: the number, and what the question without it gives.
-pub fn rights_by(block: &[u8], lent: &[u16], user: u64, object: u64, request: u64) -> (u32, u32) {
-    own(block, lent).map_or_else(|number| (number, 0), |()| rights(block, user, object, request))
+pub fn rights_by(block: &[u8], lent: &[u16], user: u64, object: u64, request: u64, profile: u64) -> (u32, u32) {
+    own(block, lent).map_or_else(|number| (number, 0), |()| rights(block, user, object, request, profile))
 }
 
 /// The short question by a directory: the number, and 1 for yes or 0 for no.
-pub fn may_by(block: &[u8], lent: &[u16], user: u64, object: u64, request: u64) -> (u32, u32) {
-    own(block, lent).map_or_else(|number| (number, 0), |()| may(block, user, object, request))
+pub fn may_by(block: &[u8], lent: &[u16], user: u64, object: u64, request: u64, profile: u64) -> (u32, u32) {
+    own(block, lent).map_or_else(|number| (number, 0), |()| may(block, user, object, request, profile))
 }

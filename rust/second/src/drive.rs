@@ -20,18 +20,20 @@ mod history;
 mod lists;
 mod markers;
 mod moves;
+mod profiles;
 mod wide;
 
 use appointments::Appointed;
 pub use days::every_day;
+use profiles::Asked;
 
 /// The calls, each returning the refusal's number times 2^32 plus a value, as the C interface does.
 pub trait Library {
     fn make(&self, block: &mut [u8]) -> u64;
     fn message(&self, block: &mut [u8], message: &[u8]) -> u64;
     fn wide(&self, block: &mut [u8], message: &[u8]) -> u64;
-    fn rights(&self, block: &[u8], user: u64, object: u64, request: u64) -> u64;
-    fn may(&self, block: &[u8], user: u64, object: u64, request: u64) -> u64;
+    fn rights(&self, block: &[u8], user: u64, object: u64, request: u64, profile: u64) -> u64;
+    fn may(&self, block: &[u8], user: u64, object: u64, request: u64, profile: u64) -> u64;
     fn write(&self, block: &[u8], kind: u64, key: u64, out: &mut [u8]) -> u64;
     fn read(&self, block: &mut [u8], kind: u64, key: u64, text: &[u8]) -> u64;
     fn tested(&self, block: &[u8]) -> u64;
@@ -41,8 +43,8 @@ pub trait Library {
     fn directory(&self, block: &[u8], directory: &mut [u16]) -> u64;
     fn message_by(&self, block: &mut [u8], directory: &mut [u16], message: &[u8]) -> u64;
     fn wide_by(&self, block: &mut [u8], directory: &mut [u16], message: &[u8]) -> u64;
-    fn rights_by(&self, block: &[u8], directory: &[u16], user: u64, object: u64, request: u64) -> u64;
-    fn may_by(&self, block: &[u8], directory: &[u16], user: u64, object: u64, request: u64) -> u64;
+    fn rights_by(&self, block: &[u8], directory: &[u16], user: u64, object: u64, request: u64, profile: u64) -> u64;
+    fn may_by(&self, block: &[u8], directory: &[u16], user: u64, object: u64, request: u64, profile: u64) -> u64;
     fn write_by(&self, block: &[u8], directory: &[u16], kind: u64, key: u64, out: &mut [u8]) -> u64;
     fn read_by(&self, block: &mut [u8], directory: &mut [u16], kind: u64, key: u64, text: &[u8]) -> u64;
     fn day(&self, year: u64, month: u64, day: u64) -> u64;
@@ -123,7 +125,7 @@ const TO_MEET: &[(&str, &str, &[i64])] = &[
     ("message", "kind accepted", &[1, 2, 3]),
     ("message", "flags accepted", &[1, 2, 3]),
     ("message", "records more", &[-1, 0, 1]),
-    ("rights", "number", &[0, 1, 2, 4, 5]),
+    ("rights", "number", &[0, 1, 2, 4, 5, 15]),
     ("rights", "held", &EACH_RIGHT),
     ("rights", "not held", &EACH_RIGHT),
     ("rights", "granted, and not in every filter", &EACH_RIGHT),
@@ -161,7 +163,7 @@ const TO_MEET: &[(&str, &str, &[i64])] = &[
     ("rights", "examined though no right is in every filter, for user or object", &[0, 1]),
     ("rights", "examined for rights alone that are not requested, for user or object", &[0, 1]),
     ("rights", "examined for rights alone that are not in every filter, for user or object", &[0, 1]),
-    ("may", "number", &[0, 1, 2, 4, 5]),
+    ("may", "number", &[0, 1, 2, 4, 5, 15]),
     ("may", "answer", &[0, 1]),
     ("write", "number", &[0, 1, 2, 3, 4, 10]),
     ("write", "kind accepted, with an empty text", &[1, 2, 3]),
@@ -205,11 +207,11 @@ const TO_MEET: &[(&str, &str, &[i64])] = &[
     ("count", "number too great, that names a record by its last bits", &[16, 32]),
 ];
 
-/// The lines of `TO_MEET`, those of wide messages, those of the markers, those of the calls by a directory, and those of
-/// appointments.
+/// The lines of `TO_MEET`, those of wide messages, those of the markers, those of the profiles, those of the calls by a directory,
+/// and those of appointments.
 fn to_meet() -> impl Iterator<Item = (&'static str, &'static str, &'static [i64])> {
     let appointments = [days::TO_MEET, lists::TO_MEET, appointments::TO_MEET, moves::TO_MEET, history::TO_MEET].concat();
-    let more = [wide::TO_MEET, markers::TO_MEET, by::TO_MEET, &appointments].concat().into_iter();
+    let more = [wide::TO_MEET, markers::TO_MEET, profiles::TO_MEET, by::TO_MEET, &appointments].concat().into_iter();
     let more = more.flat_map(|(calls, what, all)| calls.iter().map(move |&call| (call, what, all)));
     TO_MEET.iter().copied().chain(more)
 }
@@ -251,9 +253,30 @@ impl Tally {
     }
 }
 
-/// A question as the second program answers it, and as a library is asked it.
-type Answer = fn(&[u8], u64, u64, u64) -> (u32, u32);
-type Ask = fn(&dyn Library, &[u8], u64, u64, u64) -> u64;
+/// The number and the value that the second program gives.
+type Answer = (u32, u32);
+
+/// A question, the full one or the short one: how both programs answer it, without a directory and by one.
+struct Question {
+    second: fn(&[u8], &Asked) -> Answer,
+    lib: fn(&dyn Library, &[u8], &Asked) -> u64,
+    second_by: fn(&[u8], &[u16], &Asked) -> Answer,
+    lib_by: fn(&dyn Library, &[u8], &[u16], &Asked) -> u64,
+}
+
+const FULL: Question = Question {
+    second: |b, q| crate::rights(b, q.user, q.object, q.request, q.profile),
+    lib: |lib, b, q| lib.rights(b, q.user, q.object, q.request, q.profile),
+    second_by: |b, d, q| crate::rights_by(b, d, q.user, q.object, q.request, q.profile),
+    lib_by: |lib, b, d, q| lib.rights_by(b, d, q.user, q.object, q.request, q.profile),
+};
+
+const SHORT: Question = Question {
+    second: |b, q| crate::may(b, q.user, q.object, q.request, q.profile),
+    lib: |lib, b, q| lib.may(b, q.user, q.object, q.request, q.profile),
+    second_by: |b, d, q| crate::may_by(b, d, q.user, q.object, q.request, q.profile),
+    lib_by: |lib, b, d, q| lib.may_by(b, d, q.user, q.object, q.request, q.profile),
+};
 
 /// A form of message: how one is drawn, how both programs take it, without a directory and by one, how it is read, and what is seen
 /// of one that got a number and left a block.
@@ -367,40 +390,48 @@ impl Call<'_> {
         }
     }
 
-    /// A user, an object and a request.
-    fn question(&mut self) -> (u64, u64, u64) {
+    /// Something to ask.
+    fn question(&mut self) -> Asked {
         let (user, object) = gen::question(self.rng, self.index);
         let request = if self.rng.one_in(3) { gen::number(self.rng, ALL + 1) } else { 1 + self.rng.below(ALL) };
-        (user, object, request)
+        Asked { user, object, request, profile: gen::profile(self.rng) }
     }
 
-    /// Asks a question of both programs; user, object, request and value, where it is accepted.
-    fn asked(&mut self, second: Answer, lib: Ask) -> Result<Option<(u16, u16, u64, u32)>, String> {
-        let (user, object, request) = self.question();
-        let (number, value) = second(self.block, user, object, request);
+    /// Asks a question of both programs; what was asked and the value, where it is accepted.
+    fn asked(&mut self, question: &Question) -> Result<Option<(Asked, u32)>, String> {
+        let q = self.question();
+        let (number, value) = (question.second)(self.block, &q);
         let mut b = Lent::new(self.block);
-        let got = lib(self.lib, b.lend(), user, object, request);
-        self.agree(got, number, value, &[b.is(self.block)], format!("{user} {object} {request}"))?;
+        let got = (question.lib)(self.lib, b.lend(), &q);
+        self.agree(got, number, value, &[b.is(self.block)], q.to_string())?;
+        self.saw_profile(&q, number);
         if number != 0 {
             return Ok(None);
         }
-        self.saw_who([user as u16, object as u16], request);
-        Ok(Some((user as u16, object as u16, request, value)))
+        self.in_each_profile(&q, None)?;
+        self.saw_another(question, &q, value);
+        self.saw_who(&q);
+        Ok(Some((q, value)))
     }
 
     fn rights(&mut self) -> Result<Vec<u8>, String> {
-        if let Some((user, object, request, value)) = self.asked(crate::rights, |lib, b, u, o, r| lib.rights(b, u, o, r))? {
+        if let Some((q, value)) = self.asked(&FULL)? {
             let index = index_of(self.block);
-            letters(request).for_each(|right| self.saw_right(&index, user, object, right, value >> right & 1 == 1));
-            self.saw_bound(&index, [user, object], request);
-            self.saw_numbers(&index, [user, object], request, value);
+            letters(q.request).for_each(|right| self.saw_right(&index, &q, right, value >> right & 1 == 1));
+            self.saw_bound(&index, &q);
+            self.saw_barred(&index, &q, value);
+            self.saw_numbers(&index, q.names(), q.request, value);
         }
         Ok(self.block.to_vec())
     }
 
-    /// What one right of an accepted question hung on.
-    fn saw_right(&mut self, index: &Index, user: u16, object: u16, right: usize, held: bool) {
+    /// What one right of an accepted question hung on. Where it is barred, that tells nothing of the rest.
+    fn saw_right(&mut self, index: &Index, q: &Asked, right: usize, held: bool) {
         self.saw(if held { "held" } else { "not held" }, 1 << right);
+        if q.barred(index, right) {
+            return;
+        }
+        let [user, object] = q.names();
         let by = |limit| granted(index, user, object, right, limit);
         let filters: Vec<_> = binding(index, object).collect();
         let stops: Vec<_> = filters.iter().filter(|(_, counts)| !carries(counts, right)).collect();
@@ -530,7 +561,7 @@ impl Call<'_> {
     }
 
     fn may(&mut self) -> Result<Vec<u8>, String> {
-        if let Some((.., value)) = self.asked(crate::may, |lib, b, u, o, r| lib.may(b, u, o, r))? {
+        if let Some((_, value)) = self.asked(&SHORT)? {
             self.saw("answer", value.into());
         }
         Ok(self.block.to_vec())

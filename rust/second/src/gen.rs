@@ -2,13 +2,15 @@
 
 use crate::{has, lettered, letters, once, text, Counts, Index};
 use crate::{ALL, CHAIN, COUNTS, F, FLAGS, GREATEST, HALF, HALVES, HEADER, KIND, KINDS, LAST, LETTERS, MARKED, MARKERS};
-use crate::{ENTRIES, M, MESSAGE, N, NAMES, P, PART_ENTRIES, RECORD, RIGHTS, ROOM};
+use crate::{ENTRIES, M, MESSAGE, N, NAMES, ORDINARY, P, PART_ENTRIES, RECORD, RIGHTS, ROOM, STRICT};
 use std::collections::BTreeMap;
 
 pub mod appointments;
+mod denials;
 mod firms;
 mod wide;
 
+use denials::denials;
 use firms::firms;
 pub use wide::wide;
 
@@ -126,6 +128,9 @@ pub fn index(rng: &mut Rng) -> Index {
     } else if rng.one_in(4) {
         chain(rng, &mut index);
     }
+    if rng.one_in(4) {
+        denials(rng, &mut index);
+    }
     if rng.one_in(12) {
         fan(rng, &mut index);
     }
@@ -166,7 +171,7 @@ fn name(rng: &mut Rng, pool: u64) -> u16 {
     }
 }
 
-/// Where a chain, a fan, a ring or a user of a firm starts, and the name on the other side.
+/// Where a chain, a fan, a ring, a user of a firm or one who is denied something starts, and the name on the other side.
 const START: u16 = 100;
 const OTHER: u16 = 9;
 
@@ -432,11 +437,12 @@ fn before(rng: &mut Rng, index: &Index, mut name: u16) -> u64 {
     name.into()
 }
 
-/// A user and an object: mostly such that a P record may grant something between them. Where a chain, a fan, a ring or a user of a
-/// firm starts, every other question is asked from there.
+/// A user and an object: mostly such that a P record may grant something between them. Where a chain, a fan, a ring, a user of a
+/// firm or one who is denied something starts, every other question is asked from there.
 pub fn question(rng: &mut Rng, index: &Index) -> (u64, u64) {
     let grants = &index.parts[P];
-    if index.parts[M].keys().any(|record| record.0 == START) && rng.one_in(2) {
+    let starts = index.parts[M].keys().any(|record| record.0 == START) || grants.keys().any(|record| record.1 == START);
+    if starts && rng.one_in(2) {
         let [start, other] = [START, OTHER].map(u64::from);
         return rng.pick(&[(start, other), (start, other), (other, start)]);
     }
@@ -447,6 +453,19 @@ pub fn question(rng: &mut Rng, index: &Index) -> (u64, u64) {
     let &(object, user) = grants.keys().nth(rng.below(grants.len() as u64) as usize).expect("a record");
     let object = if object == 0 { any(rng) } else { before(rng, index, object) };
     (before(rng, index, user), object)
+}
+
+/// Numbers that are no profile, many of them one by their last bits.
+pub const NO_PROFILES: [u64; 12] =
+    [2, 3, 255, 256, 257, 1 << 16, (1 << 16) + 1, 1 << 32, (1 << 32) + 1, 1 << 63, (1 << 63) + 1, u64::MAX];
+
+/// A profile: ordinary and strict as often, and now and then a number that is none.
+pub fn profile(rng: &mut Rng) -> u64 {
+    if rng.one_in(12) {
+        rng.pick(&NO_PROFILES)
+    } else {
+        rng.pick(&[ORDINARY, STRICT])
+    }
 }
 
 /// Whose a directory is: the block's own, one that was the block's own before, another block's, or no block's.

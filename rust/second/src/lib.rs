@@ -7,6 +7,7 @@ use std::ops::Range;
 use std::sync::LazyLock;
 
 pub mod appointments;
+mod barred;
 mod bound;
 pub mod calendar;
 mod directory;
@@ -18,6 +19,7 @@ mod sides;
 mod wide;
 
 pub use appointments::{move_to, next_change, stands, Appointment};
+use barred::BAR;
 use bound::{member, RULE};
 pub use calendar::{date, day};
 pub use directory::{directory, may_by, message_by, read_by, rights_by, wide_by, write_by, ENTRIES, PART_ENTRIES};
@@ -36,6 +38,9 @@ pub const DENIALS: Range<usize> = RIGHTS..2 * RIGHTS;
 pub const MARKERS: Range<usize> = 2 * RIGHTS..LETTERS.len();
 pub const X: usize = MARKERS.start;
 pub const N: usize = X + 1;
+/// The profiles of a question: in the strict one a denial wins that is reached as a grant would be.
+pub const ORDINARY: u64 = 0;
+pub const STRICT: u64 = 1;
 /// Names are below this number.
 pub const NAMES: u16 = 1024;
 /// How many records a chain may have.
@@ -396,29 +401,41 @@ fn name_of(number: u64) -> Result<u16, u32> {
     (number < NAMES.into()).then_some(number as u16).ok_or(4)
 }
 
-/// The records that a question is about, its user and its object; or the number that refuses it.
-fn question(block: &[u8], user: u64, object: u64, request: u64) -> Result<(Index, [u16; 2]), u32> {
+/// What a question is about: the records, the user and the object, and whether the profile is the strict one.
+struct Question {
+    index: Index,
+    names: [u16; 2],
+    strict: bool,
+}
+
+/// A question with all that the caller gave; or the number that refuses it.
+fn question(block: &[u8], user: u64, object: u64, request: u64, profile: u64) -> Result<Question, u32> {
     let index = Index::decode(block)?;
     let names = [name_of(user)?, name_of(object)?];
     if request == 0 || request > ALL {
         return Err(5);
     }
-    Ok((index, names))
+    match profile {
+        ORDINARY | STRICT => Ok(Question { index, names, strict: profile == STRICT }),
+        _ => Err(15),
+    }
 }
 
-/// The rights that a user holds on an object, of those requested.
-fn held(index: &Index, [user, object]: [u16; 2], request: u64) -> u32 {
+/// The rights that a user holds on an object, of those requested: in the strict profile those that nothing bars.
+fn held(Question { index, names, strict }: &Question, request: u64) -> u32 {
+    let [user, object] = *names;
     let held = (0..RIGHTS).filter(|&right| holds(index, user, object, right));
-    held.map(|right| 1 << right).sum::<u32>() & request as u32
+    let kept = held.filter(|&right| !(*strict && BAR.bars(index, *names, right)));
+    kept.map(|right| 1 << right).sum::<u32>() & request as u32
 }
 
 /// The full question: the number, and the rights held of those requested, with the numbers of M records examined above them.
-pub fn rights(block: &[u8], user: u64, object: u64, request: u64) -> (u32, u32) {
-    match question(block, user, object, request) {
-        Ok((index, names)) => {
-            let numbers = names.map(|start| examined(&index.parts[M], start));
+pub fn rights(block: &[u8], user: u64, object: u64, request: u64, profile: u64) -> (u32, u32) {
+    match question(block, user, object, request, profile) {
+        Ok(question) => {
+            let numbers = question.names.map(|start| examined(&question.index.parts[M], start));
             let above: u32 = numbers.iter().zip(EXAMINED).map(|(number, at)| number << at).sum();
-            (0, held(&index, names, request) + above)
+            (0, held(&question, request) + above)
         }
         Err(number) => (number, 0),
     }
@@ -430,9 +447,9 @@ fn numbers(value: u32) -> [u32; 2] {
 }
 
 /// The short question: the number, and 1 for yes or 0 for no.
-pub fn may(block: &[u8], user: u64, object: u64, request: u64) -> (u32, u32) {
-    match question(block, user, object, request) {
-        Ok((index, names)) => (0, (u64::from(held(&index, names, request)) == request).into()),
+pub fn may(block: &[u8], user: u64, object: u64, request: u64, profile: u64) -> (u32, u32) {
+    match question(block, user, object, request, profile) {
+        Ok(question) => (0, (u64::from(held(&question, request)) == request).into()),
         Err(number) => (number, 0),
     }
 }
@@ -620,6 +637,8 @@ mod appointed;
 mod marked;
 #[cfg(test)]
 mod places;
+#[cfg(test)]
+mod strictly;
 #[cfg(test)]
 mod tests;
 #[cfg(test)]

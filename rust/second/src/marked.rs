@@ -2,7 +2,7 @@
 
 use super::*;
 use crate::gen::Rng;
-use crate::tests::{answer, block, empty, said, Record, Says};
+use crate::tests::{answer, block, empty, may, rights, said, Record, Says};
 
 /// The masks of the markers, and of all rights with each.
 const EXCLUSIVE: u64 = 1 << X;

@@ -1,6 +1,7 @@
 //! Every example of the rules.
 
 use super::*;
+use crate::barred::denies_some;
 use crate::gen::Rng;
 use crate::growth::Growth;
 
@@ -41,6 +42,30 @@ fn permission(previous: Says, new: Says) -> Vec<u8> {
 /// An empty block with room for so many records.
 pub fn empty(room: usize) -> Vec<u8> {
     make(&vec![7; HEADER + RECORD * room]).1
+}
+
+/// An answer in the ordinary profile. The strict one gives the same, where nothing is denied.
+fn in_ordinary(block: &[u8], answer: impl Fn(u64) -> (u32, u32)) -> (u32, u32) {
+    let denied = Index::decode(block).is_ok_and(|index| index.parts[P].values().any(denies_some));
+    assert!(denied || answer(STRICT) == answer(ORDINARY));
+    answer(ORDINARY)
+}
+
+/// The questions in the ordinary profile.
+pub fn rights(block: &[u8], user: u64, object: u64, request: u64) -> (u32, u32) {
+    in_ordinary(block, |profile| crate::rights(block, user, object, request, profile))
+}
+
+pub fn may(block: &[u8], user: u64, object: u64, request: u64) -> (u32, u32) {
+    in_ordinary(block, |profile| crate::may(block, user, object, request, profile))
+}
+
+fn rights_by(block: &[u8], lent: &[u16], user: u64, object: u64, request: u64) -> (u32, u32) {
+    in_ordinary(block, |profile| crate::rights_by(block, lent, user, object, request, profile))
+}
+
+fn may_by(block: &[u8], lent: &[u16], user: u64, object: u64, request: u64) -> (u32, u32) {
+    in_ordinary(block, |profile| crate::may_by(block, lent, user, object, request, profile))
 }
 
 /// What an accepted full question gives: the rights held, and the M records examined for the user and for the object.
@@ -269,7 +294,7 @@ fn place_of(number: usize) -> u16 {
 }
 
 /// The directory of a block.
-fn made(block: &[u8]) -> Vec<u16> {
+pub fn made(block: &[u8]) -> Vec<u16> {
     let (number, directory) = directory(block, &[7; ENTRIES]);
     assert_eq!(number, 0);
     directory
@@ -347,8 +372,9 @@ fn calls_by_a_directory_are_refused_in_order() {
             assert_eq!(read_by(&b, &wrong, kind, key, b"3;m"), (13, 0, b.clone(), wrong.clone()));
             assert_eq!(write_by(&b, &wrong, kind, key, &[7; 2]), (13, 0, vec![7; 2]));
         }
-        for (user, request) in [(3, ALL), (1024, ALL), (3, 0)] {
-            assert_eq!((rights_by(&b, &wrong, user, 0, request), may_by(&b, &wrong, user, 0, request)), ((13, 0), (13, 0)));
+        for (user, request, profile) in [(3, ALL, ORDINARY), (1024, ALL, STRICT), (3, 0, ORDINARY), (3, ALL, 2)] {
+            assert_eq!(crate::rights_by(&b, &wrong, user, 0, request, profile), (13, 0));
+            assert_eq!(crate::may_by(&b, &wrong, user, 0, request, profile), (13, 0));
         }
     }
     for (number, refused) in [(1, &b[..HEADER - 1]), (2, &b[..HEADER])] {
@@ -356,7 +382,8 @@ fn calls_by_a_directory_are_refused_in_order() {
             assert_eq!(message_by(refused, lent, &give), (number, refused.to_vec(), lent.to_vec()));
             assert_eq!(read_by(refused, lent, 0, 5, b""), (number, 0, refused.to_vec(), lent.to_vec()));
             assert_eq!(write_by(refused, lent, 1, 1024, &[7]), (number, 0, vec![7]));
-            assert_eq!((rights_by(refused, lent, 3, 0, 0), may_by(refused, lent, 3, 0, 0)), ((number, 0), (number, 0)));
+            assert_eq!(crate::rights_by(refused, lent, 3, 0, 0, 2), (number, 0));
+            assert_eq!(crate::may_by(refused, lent, 3, 0, 0, 2), (number, 0));
         }
     }
 }

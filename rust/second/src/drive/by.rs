@@ -1,7 +1,7 @@
 //! The directory of keys and the calls by one, held against the second program. Beside each stands the library's own call
 //! without a directory: by the block's own directory it has to give the same.
 
-use super::{index_of, Ask, Call, Case, Form, Lent, Library, CALLS, EACH_RIGHT, OVER_UNMEASURED};
+use super::{index_of, Asked, Call, Case, Form, Lent, Question, CALLS, EACH_RIGHT, FULL, OVER_UNMEASURED, SHORT};
 use crate::gen::{self, Directory, Whose};
 use crate::{binding, letters, set_of, ENTRIES, KINDS, NAMES, PART_ENTRIES, RECORD};
 
@@ -45,8 +45,8 @@ pub const TO_MEET: &[(&[&str], &str, &[i64])] = &[
     (CHANGES, "directory changed", &[0, 1]),
     (CHANGES, "part of the first entry that changed", &[1, 2, 3]),
     (CHANGES, "part whose end is the first entry that changed", &[1, 2, 3]),
-    (QUESTIONS, "number", &[0, 1, 2, 4, 5, 13]),
-    (QUESTIONS, "13 where the call without it gives", &[0, 4, 5]),
+    (QUESTIONS, "number", &[0, 1, 2, 4, 5, 13, 15]),
+    (QUESTIONS, "13 where the call without it gives", &[0, 4, 5, 15]),
     (QUESTIONS, "filters looked up, three or more taken as three", &[0, 1, 2, 3]),
     (&["rights_by"], "held", &EACH_RIGHT),
     (&["rights_by"], "not held", &EACH_RIGHT),
@@ -67,10 +67,6 @@ pub const TO_MEET: &[(&[&str], &str, &[i64])] = &[
     (ALL_SEVEN, OF_ITS_RECORDS, &[1, 2]),
     (ALL_SEVEN, OF_OTHER_RECORDS, &[1, 2]),
 ];
-
-/// A question by a directory as the second program answers it, and as a library is asked it.
-type AnswerBy = fn(&[u8], &[u16], u64, u64, u64) -> (u32, u32);
-type AskBy = fn(&dyn Library, &[u8], &[u16], u64, u64, u64) -> u64;
 
 /// The entries of a part.
 fn part(directory: &[u16], kind: usize) -> &[u16] {
@@ -173,30 +169,32 @@ impl Call<'_> {
         Ok(self.block.to_vec())
     }
 
-    /// Asks a question by a directory of both programs; its request and value, where it is accepted.
-    fn asked_by(&mut self, second: AnswerBy, by: AskBy, ask: Ask) -> Result<Option<(u64, u32)>, String> {
+    /// Asks a question by a directory of both programs; what was asked and the value, where it is accepted.
+    fn asked_by(&mut self, question: &Question) -> Result<Option<(Asked, u32)>, String> {
         let lent = self.lent();
-        let (user, object, request) = self.question();
-        let (number, value) = second(self.block, &lent.entries, user, object, request);
+        let q = self.question();
+        let (number, value) = (question.second_by)(self.block, &lent.entries, &q);
         let (mut b, mut d) = (Lent::new(self.block), Lent::new(&lent.entries));
-        let got = by(self.lib, b.lend(), d.lend(), user, object, request);
-        let words = format!("{user} {object} {request}");
-        self.agree(got, number, value, &[b.is(self.block), d.is(&lent.entries)], words)?;
-        self.beside(&lent, got, ask(self.lib, self.block, user, object, request), true)?;
+        let got = (question.lib_by)(self.lib, b.lend(), d.lend(), &q);
+        self.agree(got, number, value, &[b.is(self.block), d.is(&lent.entries)], q.to_string())?;
+        self.beside(&lent, got, (question.lib)(self.lib, self.block, &q), true)?;
+        self.saw_profile(&q, number);
         if number != 0 {
             return Ok(None);
         }
-        self.saw_who([user as u16, object as u16], request);
-        [user, object].into_iter().for_each(|name| self.saw_key(name));
-        let filters = binding(&index_of(self.block), object as u16).count();
+        self.in_each_profile(&q, Some(&lent.entries))?;
+        self.saw_another(question, &q, value);
+        self.saw_who(&q);
+        let names = q.names();
+        names.into_iter().for_each(|name| self.saw_key(name.into()));
+        let filters = binding(&index_of(self.block), names[1]).count();
         self.saw("filters looked up, three or more taken as three", filters.min(3) as i64);
-        Ok(Some((request, value)))
+        Ok(Some((q, value)))
     }
 
     pub fn rights_by(&mut self) -> Result<Vec<u8>, String> {
-        let by: AskBy = |lib, b, d, u, o, r| lib.rights_by(b, d, u, o, r);
-        if let Some((request, value)) = self.asked_by(crate::rights_by, by, |lib, b, u, o, r| lib.rights(b, u, o, r))? {
-            for right in letters(request) {
+        if let Some((q, value)) = self.asked_by(&FULL)? {
+            for right in letters(q.request) {
                 self.saw(if value >> right & 1 == 1 { "held" } else { "not held" }, 1 << right);
             }
             let examined = crate::numbers(value);
@@ -206,8 +204,7 @@ impl Call<'_> {
     }
 
     pub fn may_by(&mut self) -> Result<Vec<u8>, String> {
-        let by: AskBy = |lib, b, d, u, o, r| lib.may_by(b, d, u, o, r);
-        if let Some((_, value)) = self.asked_by(crate::may_by, by, |lib, b, u, o, r| lib.may(b, u, o, r))? {
+        if let Some((_, value)) = self.asked_by(&SHORT)? {
             self.saw("answer", value.into());
         }
         Ok(self.block.to_vec())

@@ -1,6 +1,6 @@
 //! What markers had to do with a message or a question.
 
-use super::{index_of, Call, Form};
+use super::{index_of, Asked, Call, Form};
 use crate::bound::{member, Link, Rule, RULE};
 use crate::growth::Growth;
 use crate::{carries, granted, has, letters, markers, passes, set_of, Counts, Half, Index, Part, Reading, Said};
@@ -168,33 +168,34 @@ fn has_markers(index: &Index) -> bool {
     index.parts[M].values().any(|counts| counts[MARKERS] != [0, 0])
 }
 
-/// The rights requested that are granted and in every filter, so that the markers decide.
-fn passed(index: &Index, [user, object]: [u16; 2], request: u64) -> Vec<usize> {
+/// The rights requested that are granted and in every filter and not barred, so that the markers decide.
+fn passed(index: &Index, q: &Asked) -> Vec<usize> {
+    let [user, object] = q.names();
     let passed = |&right: &usize| granted(index, user, object, right, CHAIN) && passes(index, object, right);
-    letters(request & ALL).filter(passed).collect()
+    letters(q.request & ALL).filter(passed).filter(|&right| !q.barred(index, right)).collect()
 }
 
 /// What an accepted question hung on.
 impl Call<'_> {
     /// Whether the user is bound, and the object open to her.
-    pub fn saw_who(&mut self, names: [u16; 2], request: u64) {
+    pub fn saw_who(&mut self, q: &Asked) {
         let index = index_of(self.block);
-        if !has_markers(&index) || passed(&index, names, request).is_empty() {
+        if !has_markers(&index) || passed(&index, q).is_empty() {
             return;
         }
-        let (part, [user, object]) = (&index.parts[M], names);
+        let (part, [user, object]) = (&index.parts[M], q.names());
         let bound = !RULE.hers(part, user).is_empty();
         let which = if bound { 2 - i64::from(RULE.open(part, user, object)) } else { 0 };
         self.saw("granted, and in every filter, to a user who is not bound, is let in, or is kept out", which);
     }
 
-    pub fn saw_bound(&mut self, index: &Index, [user, object]: [u16; 2], request: u64) {
-        let part = &index.parts[M];
+    pub fn saw_bound(&mut self, index: &Index, q: &Asked) {
+        let (part, [user, object]) = (&index.parts[M], q.names());
         if !has_markers(index) {
             return;
         }
         self.saw_markers_alone(part, [user, object]);
-        let rights = passed(index, [user, object], request);
+        let rights = passed(index, q);
         if rights.is_empty() {
             return;
         }

@@ -9,19 +9,20 @@ use std::process::{Command, Stdio};
 mod appointments;
 mod days;
 mod markers;
+mod profiles;
 mod wide;
 
 /// What the fault is, the text in plain/src, and what is put in its place.
 type Fault = (&'static str, &'static str, &'static str);
 
-/// The faults but for those of markers, of wide messages, of days and of appointments.
+/// The faults but for those of markers, of profiles, of wide messages, of days and of appointments.
 const FAULTS: &[Fault] = &[
     ("a block that is a byte too short is one that is not good", "if b.len() < HEADER || b.len() > GREATEST {\n        return Err(1);\n    }\n    let at", "if b.len() + 1 == HEADER {\n        return Err(2);\n    }\n    if b.len() < HEADER || b.len() > GREATEST {\n        return Err(1);\n    }\n    let at"),
     ("a block that is a byte too long is taken", "b.len() > GREATEST {\n        return 1;\n    }\n    b.fill(0);", "b.len() > GREATEST + 1 {\n        return 1;\n    }\n    b.fill(0);"),
     ("bytes after the end are not looked at", ".fold(0, |all, &x| all | x)", ".fold(0, |all, &x| all | u8::from(x == 255))"),
     ("a record may stand twice", "falls += u32::from(spot <= last);", "falls += u32::from(spot < last);"),
     ("a record may stand out of order", "falls <= first.into()", "falls <= 1"),
-    ("a key above 1023 is taken", "!((NAMES as u32 - 1) << 16 | (NAMES as u32 - 1))", "!(0xFFFF << 16 | (NAMES as u32 - 1))"),
+    ("a key of 1024 is taken", "        names |= spot;\n", "        names |= if spot >> 16 == NAMES as u32 { spot & 0xFFFF } else { spot };\n"),
     ("an id above 1023 is taken", "!((NAMES as u32 - 1) << 16 | (NAMES as u32 - 1))", "!((NAMES as u32 - 1) << 16 | 0xFFFF)"),
     ("the last records of a part are not tested", "rest.iter().for_each(look);", "rest.iter().take(0).for_each(look);"),
     ("small letters may stand in M and F", " && denials == 0", ""),
@@ -56,7 +57,7 @@ const FAULTS: &[Fault] = &[
     ("name 0 does not count", "    marks[0] |= OBJECT;\n", ""),
     ("denials are not looked at", " & !mask(record, SMALLS)", ""),
     ("the denial of update is forgotten", " & !mask(record, SMALLS)", " & !(mask(record, SMALLS) & 11)"),
-    ("key and id of a grant change places", "marks[word(record, 0) % NAMES] >> RIGHTS & marks[word(record, ID) % NAMES] & limit", "marks[word(record, ID) % NAMES] >> RIGHTS & marks[word(record, 0) % NAMES] & limit"),
+    ("key and id of a grant change places", "marks[word(record, 0) % NAMES] >> RIGHTS & marks[word(record, ID) % NAMES]\n", "marks[word(record, ID) % NAMES] >> RIGHTS & marks[word(record, 0) % NAMES]\n"),
     ("the search ends at the first grant", "            if held == limit {", "            if held != 0 {"),
     ("only the first filter found binds", "    binding.fold(", "    binding.take(1).fold("),
     ("only the first filter of each name binds", "take_while(|&record| word(record, 0) == name)", "take_while(|&record| word(record, 0) == name).take(1)"),
@@ -155,8 +156,8 @@ const FAULTS: &[Fault] = &[
     ("8 and 9 of a read come before 13", "    own_mut(b, lent).map_or_else(|number| (number, 0), |directory| read_with(b, directory, kind, key, text))", "    match own_mut(b, lent) {\n        Err(13) => match read_with(&mut b.to_vec(), &mut crate::Search, kind, key, text) {\n            late @ (8..=9, _) => late,\n            _ => (13, 0),\n        },\n        Err(number) => (number, 0),\n        Ok(directory) => read_with(b, directory, kind, key, text),\n    }"),
     ("3 and 4 of a write come before 13", "    own(b, lent).map_or_else(|number| (number, 0), |(directory, _)| write_with(", "    let early = sound(b).and_then(|_| crate::set_bounds(b, &crate::Search, kind, key));\n    early.and_then(|_| own(b, lent)).map_or_else(|number| (number, 0), |(directory, _)| write_with("),
     ("10 comes before 13", "    own(b, lent).map_or_else(|number| (number, 0), |(directory, _)| write_with(b, directory, kind, key, out))", "    match own(b, lent) {\n        Err(13) => match write_with(b, &crate::Search, kind, key, &mut out.to_vec()) {\n            late @ (10, _) => late,\n            _ => (13, 0),\n        },\n        Err(number) => (number, 0),\n        Ok((directory, _)) => write_with(b, directory, kind, key, out),\n    }"),
-    ("4 and 5 of a question come before 13", "    let (directory, marked) = own(b, lent)?;\n    let asked = asked(user, object, request)?;", "    sound(b)?;\n    let asked = asked(user, object, request)?;\n    let (directory, marked) = own(b, lent)?;"),
-    ("4 and 5 of a question come before 2", "    let (directory, marked) = own(b, lent)?;\n    let asked = asked(user, object, request)?;", "    let asked = asked(user, object, request)?;\n    let (directory, marked) = own(b, lent)?;"),
+    ("4, 5 and 15 of a question come before 13", "    let (directory, marked) = own(b, lent)?;\n    let asked = asked(user, object, request, profile)?;", "    sound(b)?;\n    let asked = asked(user, object, request, profile)?;\n    let (directory, marked) = own(b, lent)?;"),
+    ("4, 5 and 15 of a question come before 2", "    let (directory, marked) = own(b, lent)?;\n    let asked = asked(user, object, request, profile)?;", "    let asked = asked(user, object, request, profile)?;\n    let (directory, marked) = own(b, lent)?;"),
     ("a directory is not renewed after a read", "    shift(b, keys, kind, key as usize, hi, lo + records);", "    shift(b, &mut Search, kind, key as usize, hi, lo + records);"),
     ("a directory is not renewed after a message that inserts", "        shift(b, keys, kind, want >> NAME_BITS, i, i + 1);", "        shift(b, &mut Search, kind, want >> NAME_BITS, i, i + 1);"),
     ("a directory is not renewed after a message that removes", "        shift(b, keys, kind, want >> NAME_BITS, i + 1, i);", "        shift(b, &mut Search, kind, want >> NAME_BITS, i + 1, i);"),
@@ -191,9 +192,9 @@ const FAULTS: &[Fault] = &[
     ("a write by a directory loses its value", "|(directory, _)| write_with(b, directory, kind, key, out))", "|(directory, _)| (write_with(b, directory, kind, key, out).0, 0))"),
     ("a write by a wrong directory writes", "    own(b, lent).map_or_else(|number| (number, 0), |(directory, _)| write_with(b, directory, kind, key, out))", "    match own(b, lent) {\n        Err(number) => {\n            out.fill(0);\n            (number, 0)\n        }\n        Ok((directory, _)) => write_with(b, directory, kind, key, out),\n    }"),
     ("nothing is examined by a directory", "full(question_by::<true>(", "full(question_by::<false>("),
-    ("the short question by a directory gives the rights", "short(question_by::<false>(b, lent, user, object, request), request)", "full(question_by::<false>(b, lent, user, object, request))"),
-    ("13 has a value", "full(question_by::<true>(b, lent, user, object, request))", "match full(question_by::<true>(b, lent, user, object, request)) {\n        (13, _) => (13, 1),\n        other => other,\n    }"),
-    ("a request is not applied by a directory", "    let asked = asked(user, object, request)?;\n    Ok(answered::<COUNTED>(b, directory, asked, marked))", "    let (user, object, _) = asked(user, object, request)?;\n    Ok(answered::<COUNTED>(b, directory, (user, object, crate::ALL), marked))"),
+    ("the short question by a directory gives the rights", "short(question_by::<false>(b, lent, user, object, request, profile), request)", "full(question_by::<false>(b, lent, user, object, request, profile))"),
+    ("13 has a value", "full(question_by::<true>(b, lent, user, object, request, profile))", "match full(question_by::<true>(b, lent, user, object, request, profile)) {\n        (13, _) => (13, 1),\n        other => other,\n    }"),
+    ("a request is not applied by a directory", "    let asked = asked(user, object, request, profile)?;\n    Ok(answered::<COUNTED>(b, directory, asked, marked))", "    let (user, object, _, strict) = asked(user, object, request, profile)?;\n    Ok(answered::<COUNTED>(b, directory, (user, object, crate::ALL, strict), marked))"),
 ];
 
 fn copy(from: &Path, to: &Path) -> std::io::Result<()> {
@@ -266,7 +267,7 @@ fn main() -> std::io::Result<()> {
         .map(|entry| entry.map(|entry| entry.path()).and_then(|path| Ok((path.clone(), fs::read_to_string(path)?))))
         .collect::<std::io::Result<_>>()?;
     let words = std::env::args().nth(1).unwrap_or_default();
-    let all = [FAULTS, markers::FAULTS, wide::FAULTS, days::FAULTS, appointments::FAULTS];
+    let all = [FAULTS, markers::FAULTS, profiles::FAULTS, wide::FAULTS, days::FAULTS, appointments::FAULTS];
     let faults: Vec<&Fault> = all.into_iter().flatten().filter(|fault| fault.0.contains(&words)).collect();
     let places: Vec<&Source> = faults.iter().map(|(what, old, _)| place(&sources, what, old)).collect();
     assert!(matches!(compared(&folder)?, End::Agreed), "the program without a fault disagrees");
