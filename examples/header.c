@@ -1,4 +1,4 @@
-/* Tests what the header gives beside the calls of the rules, as C99 and as C++11: the helpers, messages and wide messages, the
+/* Tests what the header gives beside the calls of the rules, as C99 and as C++11: the inline functions, messages and wide messages, the
  * longest text, the places of wrong texts, the parts of a full question's answer, both profiles, the calls that go through a block
  * record by record, a directory, dates, and appointments with each number of each call for them. */
 #include "anaqsiro.h"

@@ -67,7 +67,7 @@ static void load(void) {
     ask("Ben", BEN, "order 30", ORDER_30);
 }
 
-/* A denial that comes to Anna by another group of hers, and one that comes to her by a group of the order. */
+/* A denial that comes to Anna by another group of hers, and one that comes to Ben by a group of the order. */
 static void deny_by_groups(void) {
     begin("hired staff may not update what is of line 2", ANAQSIRO_PERMISSION, LINE_2, HIRED, "u");
     begin("Anna is hired", ANAQSIRO_MEMBERSHIP, ANNA, HIRED, "MRUP");

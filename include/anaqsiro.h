@@ -17,7 +17,7 @@
  *   taken for 1 January 1970, or for no change any more.
  * - A QUESTION HAS A PROFILE SINCE 0.8, AS ITS LAST ARGUMENT. Compile every file again that calls anaqsiro_rights, anaqsiro_may or
  *   one of the two by a directory. One that was compiled with a header of 0.7 is linked without a word, and its questions are
- *   answered by whatever number stands where the profile should be. The other way, an archive of 0.7 passes the profile over, and
+ *   asked in whatever profile happens to stand there, or refused with 15. The other way, an archive of 0.7 ignores the profile, and
  *   answers every question in the ordinary one.
  * - IN THE ORDINARY PROFILE DENIALS DO NOT REACH ACROSS RECORDS. "No read" takes read out of the one permission record that it
  *   stands in; another one may still give it, to a group of the same user or on a group of the same object. Who wants a denial to
