@@ -1,16 +1,21 @@
 -- The test of each case of the table, and that it means what the case says.
 use Prim.Native.Nat.{ℕ}
-use mathlib.Core.Path.{_≡_, refl, subst}
-use mathlib.Core.Bool.{true}
+use mathlib.Core.Path.{_≡_, refl, sym, subst}
+use mathlib.Core.Bool.{Bool, true, false, _&&_}
 use mathlib.Core.List.{List, [], _∷_}
 use mathlib.Core.Logic.{inl, inr}
+use borrow.Author.Tests.{eqb-true}
+use lib.Dec.{eqb}
 use lib.ListN.{length}
 use Rattle.index.specs.Numbers.{Each}
 use Rattle.index.specs.Message.{kindOf, changes}
 use Rattle.index.specs.Wide.{Sent, previousOf, newOf, FormedOf}
 use Rattle.index.specs.Calls.{blockNeeds, sentNeeds, Sends}
 use Rattle.index.specs.Text.{textOf, setOf}
+use Rattle.index.proofs.laws.Tests.{both}
+use Rattle.index.proofs.laws.message.Halves.{differ}
 use Rattle.index.proofs.laws.message.MessageTest.{passTest, sentTest, sent-test, lastOf}
+use Rattle.rights.proofs.laws.tests.ExaminedTest.{examinedTest}
 use Rattle.tight.specs.Examples.{Case, Shows}
 use Rattle.tight.proofs.BlockTest.{blockTest, block-test}
 use Rattle.tight.proofs.RightsTest.{rightsTest, Tested, profiles-test, rights-test, everywhereTest, everywhere-test}
@@ -54,3 +59,46 @@ means (Case.malformed b m) e = malformed b m (e .0) (e .1)
 pub all-mean : (cs : List Case) → Each Test cs → Each Shows cs
 all-mean [] e = tt
 all-mean (c ∷ cs) e = (means c (e .0), all-mean cs (e .1))
+
+-- ---- the cases about rights, as one test that comes out true or false
+
+abbrev numbersTest : List ℕ → ℕ → ℕ → ℕ → ℕ → Bool
+numbersTest b u o i j = eqb (examinedTest b u) i && eqb (examinedTest b o) j
+
+abbrev askedTest : Case → Bool
+askedTest (Case.rights b u o mask i j) = rightsTest b u mask mask o && numbersTest b u o i j
+askedTest (Case.profiles b u o mask in-strict i j) = rightsTest b u mask in-strict o && numbersTest b u o i j
+askedTest (Case.everywhere b u mask in-strict) = everywhereTest b u mask in-strict
+askedTest (Case.holds b u o mask in-strict) = rightsTest b u mask in-strict o
+askedTest (Case.text b kind x t n) = false
+askedTest (Case.wrong t place) = false
+askedTest Case.empty = false
+askedTest (Case.accepted b m b′) = false
+askedTest (Case.refused b m n) = false
+askedTest (Case.malformed b m) = false
+
+tested : (b : List ℕ) (u mask in-strict o i j : ℕ) → rightsTest b u mask in-strict o && numbersTest b u o i j ≡ true → Tested b u mask in-strict o i j
+tested b u mask in-strict o i j e =
+    let p = both (rightsTest b u mask in-strict o) (numbersTest b u o i j) e in
+    let q = both (eqb (examinedTest b u) i) (eqb (examinedTest b o) j) (p .1) in
+    (p .0, eqb-true _ _ (q .0), eqb-true _ _ (q .1))
+
+asked : (c : Case) → askedTest c ≡ true → Test c
+asked (Case.rights b u o mask i j) e = tested b u mask mask o i j e
+asked (Case.profiles b u o mask in-strict i j) e = tested b u mask in-strict o i j e
+asked (Case.everywhere b u mask in-strict) e = e
+asked (Case.holds b u o mask in-strict) e = e
+asked (Case.text b kind x t n) e = absurd (differ (sym e))
+asked (Case.wrong t place) e = absurd (differ (sym e))
+asked Case.empty e = absurd (differ (sym e))
+asked (Case.accepted b m b′) e = absurd (differ (sym e))
+asked (Case.refused b m n) e = absurd (differ (sym e))
+asked (Case.malformed b m) e = absurd (differ (sym e))
+
+abbrev pub askedTests : List Case → Bool
+askedTests [] = true
+askedTests (c ∷ cs) = askedTest c && askedTests cs
+
+pub all-asked : (cs : List Case) → askedTests cs ≡ true → Each Shows cs
+all-asked [] e = tt
+all-asked (c ∷ cs) e = let p = both (askedTest c) (askedTests cs) e in (means c (asked c (p .0)), all-asked cs (p .1))

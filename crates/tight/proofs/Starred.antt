@@ -15,7 +15,7 @@ use Rattle.index.specs.work.Reading.{digit, reaches, readDigits, readNumber, re
 use Rattle.tight.specs.Blocks.{twos, once, block, takesX, giving, absent, several, nothing, reads, give}
 use Rattle.tight.specs.Examples.{Case, Shows, granted, masks, texts, places, chains, examined, appointments, limits, member, markers, firms, denials, deniedEverywhere, lot, four, giveFour, reader, readers, wides, cases}
 use Rattle.index.proofs.laws.message.Halves.{differ}
-use Rattle.tight.proofs.CaseTest.{all-mean}
+use Rattle.tight.proofs.CaseTest.{all-mean, all-asked}
 
 -- The tests of one case after the other.
 infixr 2 _and_
@@ -38,11 +38,11 @@ places-right = all-mean places (refl and refl and refl and refl and refl and tt)
 
 chains-right : Each Shows chains
 unfolding number countAt mayHave
-chains-right = all-mean chains ((refl, refl, refl) and (refl, refl, refl) and refl and (refl, refl, refl) and (refl, refl, refl) and tt)
+chains-right = all-asked chains refl
 
 pub examined-right : Each Shows examined
 unfolding number countAt mayHave
-examined-right = all-mean examined ((refl, refl, refl) and (refl, refl, refl) and (refl, refl, refl) and (refl, refl, refl) and (refl, refl, refl) and (refl, refl, refl) and (refl, refl, refl) and tt)
+examined-right = all-asked examined refl
 
 pub appointments-right : Each Shows appointments
 unfolding number countAt countFrom count room mayHave kindOf kindNumber kindIn flags present message.markers maskWith halfAt halves changes moves taken added ownCount
@@ -106,60 +106,15 @@ markers-right =
 -- M-112: the denials.
 pub denials-right : Each Shows denials
 unfolding number countAt mayHave
-denials-right =
-    all-mean denials
-    ((refl, refl, refl)
-    and (refl, refl, refl)
-    and (refl, refl, refl)
-    and (refl, refl, refl)
-    and (refl, refl, refl)
-    and (refl, refl, refl)
-    and (refl, refl, refl)
-    and (refl, refl, refl)
-    and (refl, refl, refl)
-    and (refl, refl, refl)
-    and (refl, refl, refl)
-    and (refl, refl, refl)
-    and (refl, refl, refl)
-    and (refl, refl, refl)
-    and (refl, refl, refl)
-    and (refl, refl, refl)
-    and (refl, refl, refl)
-    and (refl, refl, refl)
-    and (refl, refl, refl)
-    and tt)
+denials-right = all-asked denials refl
 
 denied-everywhere-right : Each Shows deniedEverywhere
 unfolding number countAt mayHave
-denied-everywhere-right = all-mean deniedEverywhere (refl and tt)
+denied-everywhere-right = all-asked deniedEverywhere refl
 
 pub firms-right : Each Shows firms
 unfolding number countAt mayHave
-firms-right =
-    all-mean firms
-    ((refl, refl, refl)
-    and (refl, refl, refl)
-    and (refl, refl, refl)
-    and (refl, refl, refl)
-    and (refl, refl, refl)
-    and (refl, refl, refl)
-    and (refl, refl, refl)
-    and (refl, refl, refl)
-    and (refl, refl, refl)
-    and (refl, refl, refl)
-    and (refl, refl, refl)
-    and (refl, refl, refl)
-    and (refl, refl, refl)
-    and (refl, refl, refl)
-    and (refl, refl, refl)
-    and (refl, refl, refl)
-    and (refl, refl, refl)
-    and (refl, refl, refl)
-    and refl
-    and refl
-    and refl
-    and refl
-    and tt)
+firms-right = all-asked firms refl
 
 -- M-100: wide messages. A list that is empty, too long or not strictly rising, an absent half with lists or with a mask, and a header or a
 -- length that is wrong.

@@ -13,13 +13,7 @@ returns : tie.Need-returns
 unfolding Asks Full
 returns c =
     let start = c .before .before .before .before in
-    let b = start .args .block .now in
-    let u = start .args .user in
-    let o = start .args .object in
-    let q = start .args .request in
-    let p = start .args .profile in
-    let some = c .if1 .taken in
-    (positive _ some, refused b u o q p unreported (Reports (profileOf p) b u o q) (start .pre .0) (start .pre .1 .0) (c .before .refusal .result) some (c .before .refusal .ensures))
+    (positive _ (c .if1 .taken), refused _ _ _ _ _ unreported _ (start .pre .0) (start .pre .1 .0) _ (c .if1 .taken) (c .before .refusal .ensures))
 
 -- All that the question needs holds.
 module _ (c : tie.Else1) where
