@@ -5,5 +5,6 @@ pub mod Held
 pub mod Profiles
 pub mod Examined
 pub mod Questions
+pub mod Through
 -- What only proofs need.
 pub mod work

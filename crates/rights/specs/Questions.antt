@@ -51,9 +51,13 @@ Full b u o request profile a =
 unfoldable pub HoldsAll : Profile → List ℕ → ℕ → ℕ → ℕ → Type 0
 HoldsAll p b u o request = (k : ℕ) → k < rightCount → In k request → HoldsIn p b u o k
 
--- An accepted short question: the number 0, and 1 for yes, "yes exactly when every requested right is held", or 0 for no.
+-- An accepted question with yes or no: the number 0, and 1 for yes, exactly when P holds, or 0 for no.
+abbrev pub YesWhen : Type 0 → (ℕ × ℕ) → Type 0
+YesWhen P a = (a .0 ≡ 0) × (a .1 < 2) × ((a .1 ≡ 1) ↔ P)
+
+-- An accepted short question: "yes exactly when every requested right is held".
 abbrev pub Answered : Profile → List ℕ → ℕ → ℕ → ℕ → (ℕ × ℕ) → Type 0
-Answered p b u o request a = (a .0 ≡ 0) × (a .1 < 2) × ((a .1 ≡ 1) ↔ HoldsAll p b u o request)
+Answered p b u o request a = YesWhen (HoldsAll p b u o request) a
 
 -- The short question: the number, and 1 for yes or 0 for no.
 unfoldable pub Short : List ℕ → ℕ → ℕ → ℕ → ℕ → (ℕ × ℕ) → Type 0

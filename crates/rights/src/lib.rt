@@ -3,11 +3,13 @@
 mod filter;
 mod grants;
 mod groups;
+mod letting;
 mod lookup;
 mod members;
 mod questions;
 mod walk;
 
+pub use crate::letting::let_through;
 pub use crate::questions::may;
 pub use crate::questions::may_by;
 pub use crate::questions::rights_by;
@@ -39,5 +41,11 @@ pub enum Rights {
 pub enum Answer {
     Yes,
     No,
+    Refused(u8),
+}
+
+// What the filters and exclusive groups let through: the mask of the rights, or the number of the refusal.
+pub enum Through {
+    Mask(u8),
     Refused(u8),
 }

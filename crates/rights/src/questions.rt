@@ -20,7 +20,7 @@ ghost use Rattle.rights.specs.Profiles.{profileOf};
 ghost use Rattle.rights.specs.Questions.{askNeeds, profileNeeds, Asks, AsksAll, AsksBy, AsksAllBy};
 
 // The greatest name, and the greatest request, which is for all four rights.
-const LAST_NAME: u64 = index::GREATEST_NAME as u64;
+pub(crate) const LAST_NAME: u64 = index::GREATEST_NAME as u64;
 
 const ALL_RIGHTS: u64 = ALL as u64;
 
@@ -62,7 +62,7 @@ fn refusal(user: u64, object: u64, request: u64, profile: u64) -> u8
 }
 
 // The rights, if the object is open to the user, or none. It is looked at only where there are any; where no record counts X, nobody is bound.
-fn opened(block: &[u8], directory: &[u16], user: usize, object: usize, rights: u8) -> u8
+pub(crate) fn opened(block: &[u8], directory: &[u16], user: usize, object: usize, rights: u8) -> u8
     requires { ⌜ Sized (now block) × (Good (now block) × Lent (now block) (now directory)) ⌝ }
     requires { ⌜ IsName user × (IsName object × (rights < 2 ^ rightCount)) ⌝ }
     ensures { λ r. ⌜ Mask r (λ k. Open chainLimit (now (block .entry)) user object × In k rights) ⌝ }

@@ -7,3 +7,5 @@ pub mod OneAnswer
 pub mod SameAnswers
 pub mod ShortAgrees
 pub mod BothProfiles
+-- What the filters and exclusive groups let through.
+pub mod Letting

@@ -13,7 +13,7 @@ use Rattle.rights.specs.declared.Rights.the-variants as rights
 use Rattle.rights.specs.declared.Answer.{Answer}
 use Rattle.rights.specs.declared.Answer.the-variants as answer
 use Rattle.rights.specs.Profiles.{profileOf}
-use Rattle.rights.specs.Questions.{questionNeeds, Limited, Reports, Answered, unreported, Full, Short, RightsMean, AnswerMeans, Asks, AsksAll}
+use Rattle.rights.specs.Questions.{questionNeeds, Limited, Reports, HoldsAll, YesWhen, Answered, unreported, Full, Short, RightsMean, AnswerMeans, Asks, AsksAll}
 use Rattle.rights.proofs.laws.examined.ExaminedOnce.{examined-once}
 
 one-bit : {H : Type 0} (m n : ℕ) → m < 2 → n < 2 → (m ≡ 1) ↔ H → (n ≡ 1) ↔ H → m ≡ n
@@ -25,6 +25,13 @@ one-bit m n hm hn p q =
     bit ℕ.zero h = inl (omega arith)
     bit (suc ℕ.zero) h = inr (omega arith)
     bit (suc (suc k)) h = absurd (omega arith)
+
+-- A yes or no.
+pub one-yes : (P : Type 0) (a c : ℕ × ℕ) → YesWhen P a → YesWhen P c → a ≡ c
+one-yes P a c p q =
+    let n : a .0 ≡ c .0 = p .0 ∙ sym (q .0) in
+    let m : a .1 ≡ c .1 = one-bit (a .1) (c .1) (p .1) (q .1) (p .2) (q .2) in
+    λ i. (n i, m i)
 
 -- The answer that a number and its values stand for.
 abbrev rightsOf : ℕ × ℕ × ℕ × ℕ → Rights
@@ -52,10 +59,7 @@ module _ (b : List ℕ) (u o request profile : ℕ) where
   unfolding Short
   one-short =
       one-first (λ n. (n, 0)) (questionNeeds b u o request profile) (Answered (profileOf profile) b u o request)
-      (λ a c p q.
-      let n : a .0 ≡ c .0 = p .0 ∙ sym (q .0) in
-      let m : a .1 ≡ c .1 = one-bit (a .1) (c .1) (p .1) (q .1) (p .2) (q .2) in
-      λ i. (n i, m i))
+      (one-yes (HoldsAll (profileOf profile) b u o request))
 
 -- ---- the same for the answers of the code, of any question with one outcome
 

@@ -1,0 +1,2 @@
+-- Laws of slips.
+pub mod laws

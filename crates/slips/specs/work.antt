@@ -1,0 +1,3 @@
+-- What only proofs need.
+pub mod Tested
+pub mod Trails
