@@ -1,7 +1,8 @@
--- No second number and no second bytes satisfy the promise of the same call.
+-- No second number and no second bytes satisfy the promise of the same call, but for which slip is found.
 use Prim.Native.Nat.{ℕ, _/_, _%_}
 use mathlib.Core.Path.{_≡_, sym, ap, _∙_}
 use mathlib.Core.List.{List, [], _∷_}
+use mathlib.Core.Logic.{_⊎_, inl, inr, ⊎-elim}
 use native.Mathlib.Omega.{arith}
 use Rattle.index.specs.Numbers.{Answers}
 use Rattle.index.specs.Block.{size}
@@ -17,13 +18,15 @@ use Rattle.directory.proofs.OneBy.{one-made, one-sent-by, one-read-by, one-writ
 use Rattle.rights.specs.Questions.{Full, Short, FullBy, ShortBy}
 use Rattle.rights.proofs.laws.questions.OneAnswer.{one-full, one-short}
 use Rattle.rights.proofs.laws.questions.SameAnswers.{one-full-by, one-short-by}
+use Rattle.slips.specs.Calls.{ChecksSlip, Outcome, Found}
+use Rattle.slips.proofs.laws.OneSlip.{one-check, two-finds}
 use Rattle.calendar.specs.declared.Date.{Date}
 use Rattle.calendar.specs.Calls.{DayOf, DateOf}
 use Rattle.calendar.proofs.laws.OneAnswer.{one-day-of, one-date-of}
 use Rattle.appointments.specs.Moves.{Moved}
 use Rattle.appointments.specs.Asking.{Stands, NextChange}
 use Rattle.appointments.proofs.laws.OneAnswer.{one-moved, one-stands, one-next-change}
-use Rattle.anaqsiro.specs.Returned.{Packed, Returned, Parts, InParts, MakeReturns, SendsReturns, RightsReturns, MayReturns, WriteReturns, ReadReturns, DirectoryReturns, SendsByReturns, RightsByReturns, MayByReturns, WriteByReturns, ReadByReturns, TestedReturns, SizeReturns, RecordReturns, CountReturns, DayReturns, DateParts, DateReturns, MoveReturns, NextReturns, StandsReturns}
+use Rattle.anaqsiro.specs.Returned.{Packed, Returned, Parts, InParts, MakeReturns, SendsReturns, RightsReturns, MayReturns, WriteReturns, ReadReturns, ChainParts, InChains, FindSlipReturns, CheckSlipReturns, DirectoryReturns, SendsByReturns, RightsByReturns, MayByReturns, WriteByReturns, ReadByReturns, TestedReturns, SizeReturns, RecordReturns, CountReturns, DayReturns, DateParts, DateReturns, MoveReturns, NextReturns, StandsReturns}
 
 -- The number is the upper half of what is returned, and the value the lower.
 pub halves : {n v r : ℕ} → Packed n v r → (n ≡ r / 4294967296) × (v ≡ r % 4294967296)
@@ -107,6 +110,36 @@ module _ (b : List ℕ) (u o request profile : ℕ) where
   pub one-may-return : (r r₂ : ℕ) → MayReturns b u o request profile r → MayReturns b u o request profile r₂ → r ≡ r₂
   unfolding MayReturns
   one-may-return = one-answer (Short b u o request profile) (one-short b u o request profile)
+
+-- ---- M-103: slips
+
+-- The two parts of a finder's value.
+pub chains-apart : {user object v : ℕ} → ChainParts user object v → (user ≡ v % 256) × (object ≡ v / 256)
+chains-apart p = (omega arith, omega arith)
+
+module _ (b : List ℕ) (u o right : ℕ) (us os : List ℕ) where
+  pub one-check-return : (r r₂ : ℕ) → CheckSlipReturns b u o right us os r → CheckSlipReturns b u o right us os r₂ → r ≡ r₂
+  unfolding CheckSlipReturns
+  one-check-return = one-answer (ChecksSlip b u o right us os) (one-check b u o right us os)
+
+  -- What is returned of a found slip.
+  abbrev pub FoundReturns : ℕ → List ℕ → List ℕ → Type 0
+  FoundReturns r us′ os′ = Returned (InChains (λ n x y. Found b u o right us os (n, x, y, us′, os′))) r
+
+  -- The finder's alone may differ, and only in which slip is found.
+  pub two-find-returns : (r r₂ : ℕ) (us₁ us₂ os₁ os₂ : List ℕ) → FindSlipReturns b u o right us os r us₁ os₁
+      → FindSlipReturns b u o right us os r₂ us₂ os₂
+      → ((r ≡ r₂) × (us₁ ≡ us₂) × (os₁ ≡ os₂)) ⊎ (FoundReturns r us₁ os₁ × FoundReturns r₂ us₂ os₂)
+  unfolding FindSlipReturns
+  two-find-returns r r₂ us₁ us₂ os₁ os₂ (n, v, p, (x, y, parts, f)) (n₂, v₂, p₂, (x₂, y₂, parts₂, f₂)) =
+      ⊎-elim
+      (λ e.
+      let en : n ≡ n₂ = ap (λ (a : Outcome). a .0) e in
+      let ex : x ≡ x₂ = ap (λ (a : Outcome). a .1) e in
+      let ey : y ≡ y₂ = ap (λ (a : Outcome). a .2) e in
+      inl (omega arith, ap (λ (a : Outcome). a .3) e, ap (λ (a : Outcome). a .4) e))
+      (λ found. inr ((n, v, p, (x, y, parts, found .0)), (n₂, v₂, p₂, (x₂, y₂, parts₂, found .1))))
+      (two-finds b u o right us os (n, x, y, us₁, os₁) (n₂, x₂, y₂, us₂, os₂) f f₂)
 
 -- ---- M-106: by a directory
 

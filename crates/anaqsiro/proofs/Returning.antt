@@ -13,6 +13,9 @@ use Rattle.rights.specs.declared.Rights.the-variants as rights
 use Rattle.rights.specs.declared.Answer.{Answer}
 use Rattle.rights.specs.declared.Answer.the-variants as answer
 use Rattle.rights.specs.Questions.{RightsMean, AnswerMeans}
+use Rattle.slips.specs.declared.Sought.{Sought}
+use Rattle.slips.specs.declared.Sought.the-variants as sought
+use Rattle.slips.specs.Calls.{SoughtMeans}
 use Rattle.calendar.specs.declared.Date.{Date}
 use Rattle.calendar.specs.declared.DayNumber.{DayNumber}
 use Rattle.calendar.specs.declared.DayNumber.the-variants as numbered
@@ -24,8 +27,8 @@ use Rattle.appointments.specs.declared.Next.the-variants as next
 use Rattle.appointments.specs.declared.Stood.{Stood}
 use Rattle.appointments.specs.declared.Stood.the-variants as stood
 use Rattle.appointments.specs.Asking.{Stands, NextChange, StandsAnswers, NextAnswers}
-use Rattle.anaqsiro.specs.Returned.{Parts, Returned, InParts, DateParts}
-use Rattle.anaqsiro.specs.work.Answered.{RightsAs, AnswerAs, WroteAs, TookAs, DayAs, DateAs, NextAs, StoodAs}
+use Rattle.anaqsiro.specs.Returned.{Parts, Returned, InParts, ChainParts, InChains, DateParts}
+use Rattle.anaqsiro.specs.work.Answered.{RightsAs, AnswerAs, WroteAs, TookAs, SoughtAs, DayAs, DateAs, NextAs, StoodAs}
 
 pub rights-returned : (Outcome : ℕ × ℕ × ℕ × ℕ → Type 0) (a : Rights) {r : ℕ} → RightsMean Outcome a → RightsAs a r
     → Returned (InParts Outcome) r
@@ -48,6 +51,17 @@ pub took-returned : (Outcome : ℕ → ℕ → Type 0) (a : Took) {r : ℕ} → 
 took-returned Outcome (took.Set n) p packed = (0, n, packed, p)
 took-returned Outcome (took.Wrong place) p packed = (9, place, packed, p)
 took-returned Outcome (took.Refused n) p packed = (n, 0, packed, p .2)
+
+-- ---- M-103
+
+no-names : ChainParts 0 0 0
+no-names = record { is = refl; user-fits = omega arith }
+
+pub sought-returned : (Outcome : ℕ → ℕ → ℕ → Type 0) (a : Sought) {r : ℕ} → SoughtMeans Outcome a → SoughtAs a r
+    → Returned (InChains Outcome) r
+sought-returned Outcome (sought.Slip n m) p (v, parts, packed) = (0, v, packed, (n, m, parts, p .1))
+sought-returned Outcome sought.None p packed = (0, 0, packed, (0, 0, no-names, p))
+sought-returned Outcome (sought.Refused n) p packed = (n, 0, packed, (0, 0, no-names, p .1))
 
 -- ---- M-105
 

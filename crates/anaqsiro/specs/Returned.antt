@@ -13,6 +13,7 @@ use Rattle.index.specs.Wide.Sent.{plain, wide}
 use Rattle.index.specs.Calls.{blockNeeds, Makes, Sends, WritesSet, ReadsSet}
 use Rattle.directory.specs.By.{MakesDirectory, SendsBy, ReadBy, WriteBy}
 use Rattle.rights.specs.Questions.{Full, Short, FullBy, ShortBy}
+use Rattle.slips.specs.Calls.{ChecksSlip, FindsSlip}
 use Rattle.calendar.specs.declared.Date.{Date}
 use Rattle.calendar.specs.Calls.{DayOf, DateOf}
 use Rattle.appointments.specs.Moves.{Moved}
@@ -65,6 +66,24 @@ WriteReturns b kind x out r out′ = Returned (λ n v. WritesSet b kind x out (n
 
 unfoldable pub ReadReturns : List ℕ → ℕ → ℕ → List ℕ → ℕ → List ℕ → Type 0
 ReadReturns b kind x text r b′ = Returned (λ n v. ReadsSet b kind x text (n, v, b′)) r
+
+-- ---- M-103: slips
+
+-- How many names are on the user's chain, plus 2^8 times how many are on the object's, as one value v. The first does not run into the second.
+pub record ChainParts (user object v : ℕ) : Type 0 where
+  pub is : v ≡ user + 256 * object
+  pub user-fits : user < 256
+
+-- The number n and the value v of the finder: v has two parts, which with n are an outcome of it.
+abbrev pub InChains : (ℕ → ℕ → ℕ → Type 0) → ℕ → ℕ → Type 0
+InChains Outcome n v = (user : ℕ) × (object : ℕ) × ChainParts user object v × Outcome n user object
+
+unfoldable pub FindSlipReturns : List ℕ → ℕ → ℕ → ℕ → List ℕ → List ℕ → ℕ → List ℕ → List ℕ → Type 0
+FindSlipReturns b u o right us os r us′ os′ = Returned (InChains (λ n x y. FindsSlip b u o right us os (n, x, y, us′, os′))) r
+
+-- 1 for yes, 0 for no.
+unfoldable pub CheckSlipReturns : List ℕ → ℕ → ℕ → ℕ → List ℕ → List ℕ → ℕ → Type 0
+CheckSlipReturns b u o right us os r = Returned (λ n v. ChecksSlip b u o right us os (n, v)) r
 
 -- ---- M-106: by a directory
 

@@ -9,10 +9,11 @@ use index::Took;
 use index::Wrote;
 use rights::Answer;
 use rights::Rights;
+use slips::Sought;
 ghost use mathlib.Core.Path.{_≡_};
 ghost use Prim.Native.Nat.{_<_};
-ghost use Rattle.anaqsiro.specs.Returned.{Packed, Parts, MakeReturns, MessageReturns, WideReturns, RightsReturns, MayReturns, WriteReturns, ReadReturns, DirectoryReturns, MessageByReturns, WideByReturns, RightsByReturns, MayByReturns, WriteByReturns, ReadByReturns, TestedReturns, SizeReturns, RecordReturns, CountReturns, DayReturns, DateReturns, MoveReturns, NextReturns, StandsReturns};
-ghost use Rattle.anaqsiro.specs.work.Answered.{RightsFit, RightsAs, AnswerAs, WroteFits, WroteAs, TookFits, TookAs, DayFits, DayAs, DateFits, DateAs, NextFits, NextAs, StoodAs};
+ghost use Rattle.anaqsiro.specs.Returned.{Packed, Parts, MakeReturns, MessageReturns, WideReturns, RightsReturns, MayReturns, WriteReturns, ReadReturns, FindSlipReturns, CheckSlipReturns, DirectoryReturns, MessageByReturns, WideByReturns, RightsByReturns, MayByReturns, WriteByReturns, ReadByReturns, TestedReturns, SizeReturns, RecordReturns, CountReturns, DayReturns, DateReturns, MoveReturns, NextReturns, StandsReturns};
+ghost use Rattle.anaqsiro.specs.work.Answered.{RightsFit, RightsAs, AnswerAs, WroteFits, WroteAs, TookFits, TookAs, SoughtAs, DayFits, DayAs, DateFits, DateAs, NextFits, NextAs, StoodAs};
 
 // The number and the value as one number.
 fn packed(number: u8, value: u64) -> u64
@@ -75,6 +76,18 @@ fn of_took(took: Took) -> u64
         Took::Set(records) => packed(0, records as u64),
         Took::Wrong(place) => packed(9, place as u64),
         Took::Refused(number) => packed(number, 0),
+    }
+}
+
+// What came of looking for a slip: the value is how many names are on the user's chain, plus 2^8 times how many are on the object's, and 0
+// for none.
+fn of_sought(sought: Sought) -> u64
+    ensures { λ r. ⌜ SoughtAs sought r ⌝ }
+{
+    match sought {
+        Sought::Slip(of_user, of_object) => packed(0, of_user as u64 + 256 * of_object as u64),
+        Sought::None => packed(0, 0),
+        Sought::Refused(number) => packed(number, 0),
     }
 }
 
@@ -191,6 +204,38 @@ pub extern "C" fn anaqsiro_read(block: &mut [u8], kind: u64, key: u64, text: &[u
     ensures { λ r. ⌜ ReadReturns (now (block .entry)) kind key (now (text .entry)) r (now (block .exit)) ⌝ }
 {
     of_took(index::read_set(block, kind, key, text))
+}
+
+// ---- slips
+
+// A slip for a user, an object and one right, if the right is held.
+#[no_mangle]
+pub extern "C" fn anaqsiro_find_slip(
+    block: &[u8],
+    user: u64,
+    object: u64,
+    right: u64,
+    users: &mut [u16],
+    objects: &mut [u16],
+) -> u64
+    ensures { λ r. ⌜ FindSlipReturns (now (block .entry)) user object right (now (users .entry)) (now (objects .entry)) r (now (users .exit)) (now (objects .exit)) ⌝ }
+{
+    of_sought(slips::find_slip(block, user, object, right, users, objects))
+}
+
+// Whether two lists of names are a slip.
+#[no_mangle]
+pub extern "C" fn anaqsiro_check_slip(
+    block: &[u8],
+    user: u64,
+    object: u64,
+    right: u64,
+    users: &[u16],
+    objects: &[u16],
+) -> u64
+    ensures { λ r. ⌜ CheckSlipReturns (now (block .entry)) user object right (now (users .entry)) (now (objects .entry)) r ⌝ }
+{
+    of_answer(slips::check_slip(block, user, object, right, users, objects))
 }
 
 // ---- by a directory

@@ -5,6 +5,8 @@ pub mod Parts
 -- The check.
 pub mod Checking
 -- The walk of one side, and the names on the way to a name.
+pub mod Beginning
+pub mod Listing
 pub mod Walking
 pub mod Tracing
 -- The granting record.
@@ -16,3 +18,5 @@ pub mod Seeking
 -- One answer; slips and what is held.
 pub mod OneSlip
 pub mod SlipsHold
+-- Tests that compute.
+pub mod tests

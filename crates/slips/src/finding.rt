@@ -2,6 +2,8 @@
 
 use crate::Sought;
 use crate::records::has_right;
+use crate::starts::NONE;
+use crate::starts::note_starts;
 use crate::testing::find_refusal;
 use crate::testing::right_of;
 use crate::trails::FAR;
@@ -113,12 +115,21 @@ fn sought(
     requires { ⌜ (mostNames ≤ length (now users)) × (mostNames ≤ length (now objects)) ⌝ }
     ensures { λ r. ⌜ SoughtMeans (λ n x y. Found (now (block .entry)) user object (2 ^ k) (now (users .entry)) (now (objects .entry)) (n, x, y, now (users .exit), now (objects .exit)) ⊎ NoneFound (now (block .entry)) user object (2 ^ k) (now (users .entry)) (now (objects .entry)) (n, x, y, now (users .exit), now (objects .exit))) r ⌝ }
 {
+    let mut firsts = [NONE; NAMES];
+    note_starts(block, &mut firsts);
     let mut user_steps = [FAR; NAMES];
     let mut user_before = [0u16; NAMES];
-    walk(block, k, user, &mut user_steps, &mut user_before);
+    walk(block, k, user, &firsts, &mut user_steps, &mut user_before);
     let mut object_steps = [FAR; NAMES];
     let mut object_before = [0u16; NAMES];
-    walk(block, k, object, &mut object_steps, &mut object_before);
+    walk(
+        block,
+        k,
+        object,
+        &firsts,
+        &mut object_steps,
+        &mut object_before,
+    );
     let Grant::At(i) = nearest(block, k, &user_steps, &object_steps) else {
         return Sought::None;
     };

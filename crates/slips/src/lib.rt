@@ -3,6 +3,7 @@
 mod checking;
 mod finding;
 mod records;
+mod starts;
 mod testing;
 mod trails;
 

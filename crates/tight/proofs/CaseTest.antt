@@ -95,10 +95,15 @@ asked (Case.accepted b m b′) e = absurd (differ (sym e))
 asked (Case.refused b m n) e = absurd (differ (sym e))
 asked (Case.malformed b m) e = absurd (differ (sym e))
 
-abbrev pub askedTests : List Case → Bool
-askedTests [] = true
-askedTests (c ∷ cs) = askedTest c && askedTests cs
+-- A test of each of a list, and what it says.
+module _ {C : Type 0} (test : C → Bool) where
+  abbrev pub allTests : List C → Bool
+  allTests [] = true
+  allTests (c ∷ cs) = test c && allTests cs
 
-pub all-asked : (cs : List Case) → askedTests cs ≡ true → Each Shows cs
-all-asked [] e = tt
-all-asked (c ∷ cs) e = let p = both (askedTest c) (askedTests cs) e in (means c (asked c (p .0)), all-asked cs (p .1))
+  pub all-tests : (P : C → Type 0) → ((c : C) → test c ≡ true → P c) → (cs : List C) → allTests cs ≡ true → Each P cs
+  all-tests P says [] e = tt
+  all-tests P says (c ∷ cs) e = let p = both (test c) (allTests cs) e in (says c (p .0), all-tests P says cs (p .1))
+
+pub all-asked : (cs : List Case) → allTests askedTest cs ≡ true → Each Shows cs
+all-asked cs e = all-tests askedTest Shows (λ c e. means c (asked c e)) cs e

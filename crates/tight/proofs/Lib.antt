@@ -12,6 +12,9 @@ pub mod Appointed
 pub mod FiveEmptyDays
 pub mod MillDays
 pub mod NotVacuousDays
+pub mod SlipTable
+pub mod SlipsTurnedAway
+pub mod NotVacuousSlips
 -- What they rest on: one outcome for each promise, and the tests that compute.
 pub mod Programs
 pub mod ByDirectory

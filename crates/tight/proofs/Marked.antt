@@ -35,21 +35,25 @@ unbound : InEach (λ p. Full (firm 15) 1 32 15 p (0, 15, 1, 1))
 unfolding number countAt mayHave
 unbound = rights-test (firm 15) 1 15 32 1 1 (refl, refl, refl)
 
--- The letters count the same in both, record by record.
-abbrev sameTest : ℕ → ℕ → Bool
-sameTest i k = eqb (countAt (firm 271) i k) (countAt (firm 15) i k)
+-- The first n letters count the same in two blocks, record by record.
+module _ (b b′ : List ℕ) (n : ℕ) where
+  abbrev sameTest : ℕ → ℕ → Bool
+  sameTest i k = eqb (countAt b i k) (countAt b′ i k)
 
-three : (all (sameTest 0) 0 markerX ≡ true) × (all (sameTest 1) 0 markerX ≡ true) × (all (sameTest 2) 0 markerX ≡ true)
+  abbrev pub Same : ℕ → Type 0
+  Same i = all (sameTest i) 0 n ≡ true
+
+  pub same-at : (i : ℕ) → Same i → (k : ℕ) → k < n → countAt b i k ≡ countAt b′ i k
+  same-at i e k l = eqb-true _ _ (all-at (sameTest i) 0 n e k (omega arith) (omega arith))
+
+three : Same (firm 271) (firm 15) markerX 0 × Same (firm 271) (firm 15) markerX 1 × Same (firm 271) (firm 15) markerX 2
 unfolding number countAt
 three = (refl, refl, refl)
 
-same-at : (i : ℕ) → all (sameTest i) 0 markerX ≡ true → (k : ℕ) → k < markerX → countAt (firm 271) i k ≡ countAt (firm 15) i k
-same-at i e k l = eqb-true _ _ (all-at (sameTest i) 0 markerX e k (omega arith) l)
-
 same-letters : SameLetters (firm 271) (firm 15)
 unfolding number countFrom count
-same-letters Membership x y k l = rw (same-at 0 (three .0) k l, same-at 1 (three .1) k l)
-same-letters Permission x y k l = rw (same-at 2 (three .2) k l)
+same-letters Membership x y k l = rw (same-at (firm 271) (firm 15) markerX 0 (three .0) k l, same-at (firm 271) (firm 15) markerX 1 (three .1) k l)
+same-letters Permission x y k l = rw (same-at (firm 271) (firm 15) markerX 2 (three .2) k l)
 same-letters Filter x y k l = refl
 
 -- The short question for all four rights, on both.

@@ -41,7 +41,7 @@ abbrev AllGive : ℕ → Type 0
 AllGive r = ((form : List ℕ → Sent) → SentGives form r) × (WriteGives r × ReadGives r) × QuestionsGive r × ListGives r
 
 module _ (b : List ℕ) (r : ℕ) (above : 0 < r) where
-  not-zero : r ≡ 0 → ⊥
+  pub not-zero : r ≡ 0 → ⊥
   not-zero e = omega arith
 
   first : (ts us : List (ℕ × Type 0)) → Answers ts r → Answers (ts ++ us) r
@@ -87,7 +87,7 @@ no-header =
 
 -- ---- what each call is given, on the block of 40 bytes
 
-past-block : (us : List (ℕ × Type 0)) (r : ℕ) → Answers us r → Answers (blockNeeds nothing ++ us) r
+pub past-block : (us : List (ℕ × Type 0)) (r : ℕ) → Answers us r → Answers (blockNeeds nothing ++ us) r
 unfolding blockNeeds Sized number countAt mayHave
 past-block us r a = inr ((omega arith, omega arith), inr (good-test nothing refl, a))
 

@@ -24,7 +24,7 @@ use Rattle.rights.proofs.laws.tests.HoldsTest.{holdsTest, holds-test, barredTes
 use Rattle.tight.specs.Examples.{InEach}
 use Rattle.tight.proofs.BlockTest.{blockTest, block-test}
 
-abbrev same : Bool → Bool → Bool
+abbrev pub same : Bool → Bool → Bool
 same true t = t
 same false t = not t
 
@@ -33,7 +33,7 @@ abbrev agree : Bool → Bool → Bool → Bool → Bool
 agree m s true barred = m && same s (not barred)
 agree m s false barred = not m && not s
 
-same-true : (s t : Bool) → same s t ≡ true → s ≡ t
+pub same-true : (s t : Bool) → same s t ≡ true → s ≡ t
 same-true true true e = refl
 same-true true false e = sym e
 same-true false true e = e

@@ -1,10 +1,12 @@
--- 01, "Numbers a caller can get", M-100, M-105, M-106 and M-112: which calls give which numbers. A call gives a number when it does so for some input.
+-- 01, "Numbers a caller can get", M-100, M-103, M-105, M-106 and M-112: which calls give which numbers. A call gives a number when it does so for some input.
 use Prim.Native.Nat.{ℕ}
 use mathlib.Core.List.{List, [], _∷_}
 use Rattle.index.specs.Wide.{Sent}
 use Rattle.index.specs.Calls.{Makes, Sends, CarriesOut, WritesSet, ReadsSet}
 use Rattle.directory.specs.By.{MakesDirectory, SendsBy, ReadBy, WriteBy}
 use Rattle.rights.specs.Questions.{Full, Short, FullBy, ShortBy}
+use Rattle.rights.specs.Through.{LetsThrough}
+use Rattle.slips.specs.Calls.{ChecksSlip, FindsSlip}
 use Rattle.calendar.specs.declared.Date.{Date}
 use Rattle.calendar.specs.Calls.{DayOf, DateOf, AnniversaryOf, SpanOf}
 use Rattle.appointments.specs.Moves.{Moved}
@@ -34,6 +36,21 @@ abbrev pub QuestionsGive : ℕ → Type 0
 QuestionsGive n =
     (b : List ℕ) × (u : ℕ) × (o : ℕ) × (request : ℕ) × (profile : ℕ) × (values : ℕ × ℕ × ℕ) × (answer : ℕ)
     × Full b u o request profile (n, values .0, values .1, values .2) × Short b u o request profile (n, answer)
+
+-- ---- M-103: slips
+
+abbrev pub FindGives : ℕ → Type 0
+FindGives n =
+    (b : List ℕ) × (u : ℕ) × (o : ℕ) × (right : ℕ) × (us : List ℕ) × (os : List ℕ) × (v : ℕ × ℕ × List ℕ × List ℕ)
+    × FindsSlip b u o right us os (n, v .0, v .1, v .2, v .3)
+
+abbrev pub CheckGives : ℕ → Type 0
+CheckGives n =
+    (b : List ℕ) × (u : ℕ) × (o : ℕ) × (right : ℕ) × (us : List ℕ) × (os : List ℕ) × (answer : ℕ) × ChecksSlip b u o right us os (n, answer)
+
+-- let_through, which both ask first.
+abbrev pub LetsGive : ℕ → Type 0
+LetsGive n = (b : List ℕ) × (u : ℕ) × (o : ℕ) × (mask : ℕ) × LetsThrough b u o (n, mask)
 
 -- ---- M-106: the calls by a directory
 
@@ -96,6 +113,17 @@ readNumbers = 0 ∷ 1 ∷ 2 ∷ 3 ∷ 4 ∷ 8 ∷ 9 ∷ []
 -- M-112: with 15, "last".
 abbrev pub questionNumbers : List ℕ
 questionNumbers = 0 ∷ 1 ∷ 2 ∷ 4 ∷ 5 ∷ 15 ∷ []
+
+-- M-103: "1, 2, 4 (a slip's names too), then 5 unless exactly one right is named, then 10 if a list lent to the finder has fewer than 33 places, or 11
+-- if a checked chain has 0 or more than 33 names."
+abbrev pub findNumbers : List ℕ
+findNumbers = 0 ∷ 1 ∷ 2 ∷ 4 ∷ 5 ∷ 10 ∷ []
+
+abbrev pub checkNumbers : List ℕ
+checkNumbers = 0 ∷ 1 ∷ 2 ∷ 4 ∷ 5 ∷ 11 ∷ []
+
+abbrev pub letsNumbers : List ℕ
+letsNumbers = 0 ∷ 1 ∷ 2 ∷ 4 ∷ []
 
 -- M-106: those of the block, and "13", for "the length only".
 abbrev pub directoryNumbers : List ℕ

@@ -8,6 +8,8 @@ use Rattle.rights.specs.declared.Rights.{Rights}
 use Rattle.rights.specs.declared.Rights.the-variants as rights
 use Rattle.rights.specs.declared.Answer.{Answer}
 use Rattle.rights.specs.declared.Answer.the-variants as answer
+use Rattle.slips.specs.declared.Sought.{Sought}
+use Rattle.slips.specs.declared.Sought.the-variants as sought
 use Rattle.calendar.specs.declared.DayNumber.{DayNumber}
 use Rattle.calendar.specs.declared.DayNumber.the-variants as numbered
 use Rattle.calendar.specs.declared.Dated.{Dated}
@@ -16,7 +18,7 @@ use Rattle.appointments.specs.declared.Next.{Next}
 use Rattle.appointments.specs.declared.Next.the-variants as next
 use Rattle.appointments.specs.declared.Stood.{Stood}
 use Rattle.appointments.specs.declared.Stood.the-variants as stood
-use Rattle.anaqsiro.specs.Returned.{Packed, Parts, DateParts}
+use Rattle.anaqsiro.specs.Returned.{Packed, Parts, ChainParts, DateParts}
 
 -- ---- the full question
 
@@ -56,6 +58,13 @@ abbrev pub TookAs : Took → ℕ → Type 0
 TookAs (took.Set n) r = Packed 0 n r
 TookAs (took.Wrong place) r = Packed 9 place r
 TookAs (took.Refused n) r = Packed n 0 r
+
+-- ---- a slip looked for
+
+abbrev pub SoughtAs : Sought → ℕ → Type 0
+SoughtAs (sought.Slip user object) r = (v : ℕ) × ChainParts user object v × Packed 0 v r
+SoughtAs sought.None r = Packed 0 0 r
+SoughtAs (sought.Refused n) r = Packed n 0 r
 
 -- ---- days and dates
 

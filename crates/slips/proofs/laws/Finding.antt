@@ -45,7 +45,7 @@ module _ {b : List ℕ} (good : Good b) {k start : ℕ} {steps before : List ℕ
   on {x = x} (through {n = m} y link c) h =
       let (i, a, net) = net-where good Membership k link in
       let one : at steps y ≤ at steps x + 1 =
-      rw (a .has-key, a .has-id) at (w .near i (a .of) net (inl (rw (a .has-key) (omega arith)))) in
+      rw (a .has-key, a .has-id) at (w .near i (a .of) net (rw (a .has-key) (omega arith))) in
       omega (arith, on c (omega arith))
 
   -- No chain has fewer records than the steps.
@@ -58,11 +58,11 @@ module _ {b : List ℕ} (good : Good b) {k start : ℕ} {steps before : List ℕ
       (w .back y h)
 
   pub short : Short steps
-  short y h = ⊎-elim (λ e. omega (arith, ap (at steps) e, w .starts)) (λ s. ⊎-elim (λ e. omega arith) (λ l. omega (arith, l .quiet refl)) s) (w .back y h)
+  short y h = ⊎-elim (λ e. omega (arith, ap (at steps) e, w .starts)) (λ s. ⊎-elim (λ e. omega arith) (λ l. omega (arith, l .within)) s) (w .back y h)
 
   -- A name that is reached at all is by a chain.
   pub few-steps : (y : ℕ) → IsName y → at steps y < far → at steps y ≤ chainLimit
-  few-steps y h l = ⊎-elim (λ e. omega (arith, ap (at steps) e, w .starts)) (λ s. ⊎-elim (λ e. absurd (omega arith)) (λ l. l .quiet refl) s) (w .back y h)
+  few-steps y h l = ⊎-elim (λ e. omega (arith, ap (at steps) e, w .starts)) (λ s. ⊎-elim (λ e. absurd (omega arith)) (λ l. l .within) s) (w .back y h)
 
   -- The names that are written are those on a chain.
   module _ {to : ℕ} {names names′ : List ℕ} (few : at steps to ≤ chainLimit) (long : mostNames ≤ length names) (t : Traced steps before to 0 names names′) where

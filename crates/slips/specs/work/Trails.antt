@@ -1,7 +1,7 @@
 -- For proofs only: how the finder walks. For each name how many records the shortest chain from the start has, and the name before it on that chain.
 use Prim.Native.Nat.{ℕ, _+_, _-_, _<_, _≤_}
 use mathlib.Core.Path.{_≡_}
-use mathlib.Core.Bool.{Bool, false, cond}
+use mathlib.Core.Bool.{cond}
 use mathlib.Core.List.{List}
 use mathlib.Core.Logic.{_⊎_}
 use lib.ListN.{length, getD}
@@ -9,6 +9,7 @@ use lib.Dec.{eqb}
 use Rattle.index.specs.declared.Kind.the-variants.{Membership, Permission}
 use Rattle.index.specs.Block.{nameCount, IsName, from, Of, key, id, NetAt}
 use Rattle.rights.specs.Held.{Carries, chainLimit}
+use Rattle.rights.specs.work.Fronts.{Once}
 use Rattle.slips.specs.declared.finding.Best.{Best}
 use Rattle.slips.specs.declared.finding.Grant.{Grant}
 use Rattle.slips.specs.declared.finding.Grant.the-variants as grant
@@ -21,28 +22,67 @@ far = chainLimit + chainLimit + 1
 abbrev pub at : List ℕ → ℕ → ℕ
 at steps x = getD steps x 0
 
--- One record leads to y from the name before it, which is one step nearer. In round n no name is further than n + 1 steps, and none is n + 1 steps
--- away as long as none has come in it.
-pub record Led (b : List ℕ) (k n : ℕ) (steps before : List ℕ) (came : Bool) (y : ℕ) : Type 0 where
+-- One record leads to y from the name before it, which is one step nearer; and y is at most m steps away.
+pub record Led (b : List ℕ) (k m : ℕ) (steps before : List ℕ) (y : ℕ) : Type 0 where
   pub named : IsName (getD before y 0)
   pub step : at steps y ≡ at steps (getD before y 0) + 1
   pub carried : Carries b k (getD before y 0) y
-  pub within : at steps y ≤ n + 1
-  pub quiet : came ≡ false → at steps y ≤ n
+  pub within : at steps y ≤ m
 
--- Round n of the walk from the start is through with the M records before number i: names that are n steps away are reached, and from them those that
--- these records lead to.
-pub record Trails (b : List ℕ) (k start n i : ℕ) (steps before : List ℕ) (came : Bool) : Type 0 where
+-- How y is reached from the start: it is the start, or it is not, or by such a record.
+abbrev pub Back : List ℕ → ℕ → ℕ → ℕ → List ℕ → List ℕ → ℕ → Type 0
+Back b k start m steps before y = (y ≡ start) ⊎ ((at steps y ≡ far) ⊎ Led b k m steps before y)
+
+-- The walk is done: no record leads further, up to chains of 32.
+pub record Walk (b : List ℕ) (k start : ℕ) (steps before : List ℕ) : Type 0 where
+  pub starts : at steps start ≡ 0
+  pub near : (j : ℕ) → Of b Membership j → NetAt b j k → at steps (key b j) < chainLimit → at steps (id b j) ≤ at steps (key b j) + 1
+  pub back : (y : ℕ) → IsName y → Back b k start chainLimit steps before y
+
+-- ---- the list of the names that are reached, in the order in which they are
+
+-- The first len of the list are names that are reached, none twice.
+pub record Listed (steps order : List ℕ) (len : ℕ) : Type 0 where
+  pub names : length steps ≡ nameCount
+  pub room : length order ≡ nameCount
+  pub each : (p : ℕ) → p < len → IsName (getD order p 0)
+  pub seen : (p : ℕ) → p < len → at steps (getD order p 0) < far
+  pub once : Once order len
+
+-- The list has become longer, by names behind the first len.
+abbrev pub Longer : List ℕ → ℕ → List ℕ → ℕ → Type 0
+Longer order len order′ len′ = (len ≤ len′) × ((q : ℕ) → q < len → getD order′ q 0 ≡ getD order q 0)
+
+-- z stands at a place from lo up to hi.
+abbrev pub Within : List ℕ → ℕ → ℕ → ℕ → Type 0
+Within order lo hi z = (p : ℕ) × (lo ≤ p) × (p < hi) × (getD order p 0 ≡ z)
+
+-- M record j has been looked at in this round: it is of a name at a place from lo up to p, or of the one at p and before number i.
+abbrev pub Done : List ℕ → List ℕ → ℕ → ℕ → ℕ → ℕ → Type 0
+Done b order lo p i j = Within order lo p (key b j) ⊎ ((key b j ≡ getD order p 0) × (j < i))
+
+-- Round n, of the names that are n steps away, which stand from lo up to hi: those that came in it stand from hi up to len.
+pub record Trails (b : List ℕ) (k start n lo hi p i : ℕ) (steps before order : List ℕ) (len : ℕ) : Type 0 where
   pub names : length steps ≡ nameCount
   pub names-before : length before ≡ nameCount
   pub starts : at steps start ≡ 0
-  pub near : (j : ℕ) → Of b Membership j → NetAt b j k → (at steps (key b j) < n) ⊎ ((at steps (key b j) ≡ n) × (j < i))
+  pub near : (j : ℕ) → Of b Membership j → NetAt b j k → (at steps (key b j) < n) ⊎ ((at steps (key b j) ≡ n) × Done b order lo p i j)
       → at steps (id b j) ≤ at steps (key b j) + 1
-  pub back : (y : ℕ) → IsName y → (y ≡ start) ⊎ ((at steps y ≡ far) ⊎ Led b k n steps before came y)
+  pub back : (y : ℕ) → IsName y → Back b k start (n + 1) steps before y
+  pub now : (z : ℕ) → IsName z → at steps z ≡ n → Within order lo hi z
+  pub at-now : (q : ℕ) → lo ≤ q → q < hi → at steps (getD order q 0) ≡ n
+  pub next : (z : ℕ) → IsName z → at steps z ≡ n + 1 → Within order hi len z
+  pub at-next : (q : ℕ) → hi ≤ q → q < len → at steps (getD order q 0) ≡ n + 1
+  pub inside : (p ≤ hi) × (hi ≤ len)
 
--- The walk is done: what n rounds bring is all that chains of at most n records lead to.
-abbrev pub Walk : List ℕ → ℕ → ℕ → List ℕ → List ℕ → Type 0
-Walk b k start steps before = Trails b k start chainLimit 0 steps before false
+-- Where the M records of each name begin: at the first of them. A name that has none has any number past the last M record.
+pub record Begin (b firsts : List ℕ) (i j : ℕ) : Type 0 where
+  pub low : i ≤ getD firsts (key b j) 0
+  pub high : getD firsts (key b j) 0 ≤ j
+  pub own : key b (getD firsts (key b j) 0) ≡ key b j
+
+abbrev pub Begins : List ℕ → List ℕ → ℕ → Type 0
+Begins b firsts i = (j : ℕ) → Of b Membership j → i ≤ j → Begin b firsts i j
 
 -- ---- the granting record
 

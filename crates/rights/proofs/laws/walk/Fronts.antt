@@ -27,16 +27,16 @@ among-more names n z = (
 
 -- A name that is put after the first n changes none of them.
 module _ (names : List ℕ) (n y : ℕ) where
-  at-set : (j : ℕ) → j < n → getD (set names n y) j 0 ≡ getD names j 0
+  pub at-set : (j : ℕ) → j < n → getD (set names n y) j 0 ≡ getD names j 0
   at-set j l = getD-set-other names n j y 0 (λ e. omega arith)
 
-  among-set : (j z : ℕ) → j ≤ n → Among (set names n y) j z ↔ Among names j z
+  pub among-set : (j z : ℕ) → j ≤ n → Among (set names n y) j z ↔ Among names j z
   among-set j z l = (
     (λ a. (a .0, a .1, sym (at-set (a .0) (omega (arith, a .1))) ∙ a .2)),
     (λ a. (a .0, a .1, at-set (a .0) (omega (arith, a .1)) ∙ a .2)),
   )
 
-  once-set : Once names n → Once (set names n y) n
+  pub once-set : Once names n → Once (set names n y) n
   once-set once j l a = once j l (among-set j (getD names j 0) (omega arith) .0 (rw (at-set j l) at a))
 
 -- Of all names, those on a list of n names on which each stands once are n.

@@ -1,0 +1,2 @@
+-- Tests that compute, for closed blocks.
+pub mod SlipTest
