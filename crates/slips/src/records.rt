@@ -2,9 +2,9 @@
 
 use index::Kind;
 use index::PAIR;
-ghost use Prim.Native.Nat.{ℕ, _<_, _≤_};
+ghost use Prim.Native.Nat.{_<_};
 ghost use Rattle.index.specs.Letters.{rightCount};
-ghost use Rattle.index.specs.Block.{Sized, Good, IsName, records, NetAt};
+ghost use Rattle.index.specs.Block.{Sized, Good, records, NetAt};
 ghost use Rattle.index.specs.work.Checks.{Says};
 ghost use Rattle.rights.specs.Held.{Net};
 

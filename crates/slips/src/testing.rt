@@ -3,7 +3,6 @@
 use crate::CHAIN;
 ghost use mathlib.Core.List.{[], _∷_};
 ghost use Prim.Native.Nat.{_≤_};
-ghost use lib.ListN.{length};
 ghost use Rattle.index.specs.Block.{IsName};
 ghost use Rattle.index.specs.Numbers.{Answers, Each};
 ghost use Rattle.index.specs.work.Checks.{Says};

@@ -25,8 +25,8 @@ fn wide(i: u16) -> usize
     i as usize
 }
 
-// M record i, in the round of the names that are n steps away: if its key is one, it carries right k and its id is not reached yet, then its id is
-// reached by one step more, and put behind the first `len` of the list. The result is how many names the list then has.
+// M record i, of a name that is n steps away: if it carries right k and its id is not reached yet, then its id is reached by one step more, and put
+// behind the first `len` of the list. The result is how many names the list then has.
 fn look(
     block: &[u8],
     k: u8,

@@ -1,6 +1,6 @@
 -- Where the M records of each name begin, noted from the last record to the first.
-use Prim.Native.Nat.{ℕ, _+_, _-_, _<_, _≤_}
-use mathlib.Core.Path.{_≡_, refl, sym, ap, _∙_}
+use Prim.Native.Nat.{ℕ, _-_, _<_, _≤_}
+use mathlib.Core.Path.{_≡_, sym, ap, _∙_}
 use mathlib.Core.List.{List}
 use native.Mathlib.Omega.{arith}
 use native.Mathlib.Decide.{ℕ-discrete}
@@ -8,7 +8,7 @@ use lib.ListN.{length, getD, set}
 use lib.Seq.{getD-set-same, getD-set-other}
 use Rattle.index.specs.declared.Kind.the-variants.{Membership}
 use Rattle.index.specs.Block.{size, Of, key}
-use Rattle.slips.specs.work.Trails.{Begin, Begins}
+use Rattle.slips.specs.work.Trails.{Begins}
 
 pub begins-none : (b firsts : List ℕ) → Begins b firsts (size b Membership)
 begins-none b firsts j of h = absurd (omega (arith, of .1))

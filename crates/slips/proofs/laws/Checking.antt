@@ -2,7 +2,6 @@
 use Prim.Native.Nat.{ℕ, _^_, _<_}
 use mathlib.Core.Path.{_≡_, refl}
 use mathlib.Core.List.{List, [], _∷_}
-use mathlib.Core.Logic.{_↔_}
 use native.Mathlib.Omega.{arith}
 use lib.Bits.{bitAnd}
 use Rattle.index.specs.Letters.{rightCount, Mask}
@@ -18,7 +17,7 @@ use Rattle.rights.specs.Through.{throughNeeds, ThroughAnswers}
 use Rattle.rights.proofs.laws.questions.Asking.{positive}
 use Rattle.rights.proofs.laws.questions.Letting.{Named, all-named, through-refused}
 use Rattle.slips.specs.Slip.{Slip}
-use Rattle.slips.specs.Calls.{OneRight, ForRight, IsChain, checkNeeds, Judged, ChecksSlip, CheckAnswers}
+use Rattle.slips.specs.Calls.{OneRight, IsChain, checkNeeds, Judged, ChecksSlip, CheckAnswers}
 use Rattle.slips.specs.work.Tested.{RightOf}
 use Rattle.slips.proofs.laws.Rights.{for-right, none-left, one-left}
 

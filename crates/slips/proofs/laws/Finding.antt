@@ -1,5 +1,5 @@
 -- What the walks of both sides and the nearest granting record say of slips.
-use Prim.Native.Nat.{ℕ, suc, _+_, _-_, _^_, _<_, _≤_}
+use Prim.Native.Nat.{ℕ, _+_, _-_, _^_, _<_, _≤_}
 use mathlib.Core.Path.{_≡_, refl, sym, ap, _∙_}
 use mathlib.Core.Bool.{Bool, true, false, cond}
 use mathlib.Core.List.{List, [], _∷_, _++_}
@@ -21,7 +21,7 @@ use Rattle.rights.specs.Held.{Carries, Passes, Holds, chainLimit}
 use Rattle.rights.proofs.laws.ByNumber.{at-self, net-at, net-where}
 use Rattle.slips.specs.declared.finding.Grant.the-variants as grant
 use Rattle.slips.specs.Slip.{mostNames, last, Names, ZeroAlone, Slip, Shortest}
-use Rattle.slips.specs.Calls.{Found, NoneFound}
+use Rattle.slips.specs.Calls.{Found}
 use Rattle.slips.specs.work.Trails.{far, at, atObject, between, Short, Walk, Granted, Backs, Traced, ObjectTraced}
 use Rattle.slips.proofs.laws.Naming.{names-chain, holds-slip}
 use Rattle.slips.proofs.laws.Objects.{at-zero, at-other}

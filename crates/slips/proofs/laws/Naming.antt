@@ -1,5 +1,5 @@
 -- The names on a chain, and the chain that they are on; a slip shows that the right is held, and a right that is held has a slip.
-use Prim.Native.Nat.{ℕ, suc, _+_, _-_, _<_, _≤_}
+use Prim.Native.Nat.{ℕ, suc, _-_, _<_, _≤_}
 use native.Mathlib.Numerals.{add-one}
 use mathlib.Core.Path.{_≡_, refl, sym, subst, ap, _∙_}
 use mathlib.Core.List.{List, [], _∷_}
@@ -9,7 +9,7 @@ use lib.ListN.{length, getD}
 use Rattle.rights.specs.Chain.{Chain}
 use Rattle.rights.specs.Chain.Chain.{here, through}
 use Rattle.rights.specs.Held.{Carries, Holds, chainLimit}
-use Rattle.slips.specs.Slip.{mostNames, last, Names, ZeroAlone, Slip}
+use Rattle.slips.specs.Slip.{last, Names, ZeroAlone, Slip}
 
 -- A chain of at most n records has at most m of them, where n is at most m.
 chain-most : {Link : ℕ → ℕ → Type 0} {n m x z : ℕ} → Chain Link n x z → n ≤ m → Chain Link m x z

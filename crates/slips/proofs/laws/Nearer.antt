@@ -6,7 +6,7 @@ use mathlib.Core.List.{List}
 use native.Mathlib.Omega.{arith}
 use lib.Dec.{eqb}
 use Rattle.index.specs.declared.Kind.the-variants.{Permission}
-use Rattle.index.specs.Block.{IsName, records, from, size, Of, key, id, NetAt, Good}
+use Rattle.index.specs.Block.{IsName, records, from, size, Of, NetAt, Good}
 use Rattle.index.specs.Calls.{PairOf}
 use Rattle.index.proofs.laws.Range.{from-more}
 use Rattle.directory.specs.declared.Span.{Span}

@@ -1,15 +1,14 @@
 -- No second answer to a check satisfies the same promise; and of the finder only which of the shortest slips it is.
-use Prim.Native.Nat.{ℕ, _+_, _<_}
+use Prim.Native.Nat.{ℕ, _+_}
 use mathlib.Core.Path.{_≡_, sym, ap, _∙_}
 use mathlib.Core.List.{List}
 use mathlib.Core.Logic.{_⊎_, inl, inr}
 use native.Mathlib.Omega.{arith}
-use lib.ListN.{length}
 use Rattle.index.proofs.laws.OneFirst.{one-first, both-first}
 use Rattle.rights.specs.declared.Answer.{Answer}
 use Rattle.rights.specs.Held.{Holds}
 use Rattle.rights.proofs.laws.questions.OneAnswer.{one-yes, answer-once}
-use Rattle.slips.specs.Slip.{Slip, Shortest}
+use Rattle.slips.specs.Slip.{Slip}
 use Rattle.slips.specs.Calls.{ForRight, checkNeeds, Judged, ChecksSlip, CheckAnswers, Outcome, findNeeds, Found, NoneFound, FindsSlip}
 use Rattle.slips.proofs.laws.Naming.{slip-holds}
 use Rattle.slips.proofs.laws.Rights.{right-of-one}

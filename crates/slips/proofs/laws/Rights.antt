@@ -1,11 +1,11 @@
 -- The right that a mask names alone.
 use Prim.Native.Nat.{ℕ, _^_, _<_}
-use mathlib.Core.Path.{_≡_, refl, sym}
+use mathlib.Core.Path.{_≡_, refl}
 use mathlib.Core.Logic.{_↔_}
 use native.Mathlib.Omega.{arith}
 use lib.Bits.{bitAnd}
 use lib.Dec.{ltb}
-use Rattle.index.specs.Letters.{rightCount, In, Mask}
+use Rattle.index.specs.Letters.{rightCount, In}
 use Rattle.index.specs.work.Checks.{Says}
 use Rattle.index.proofs.laws.Answer.{less-says, says-same}
 use Rattle.index.proofs.laws.block.Masks.{four, in-and, in-power, in-zero}

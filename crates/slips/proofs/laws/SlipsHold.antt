@@ -2,14 +2,14 @@
 -- over the promises of the two calls and of the full question, in the ordinary profile.
 use Prim.Native.Nat.{ℕ, suc, _+_, _^_, _<_, _≤_}
 use mathlib.Core.Path.{_≡_, refl, ap, subst}
-use mathlib.Core.List.{List, [], _∷_, _++_}
-use mathlib.Core.Logic.{_⊎_, _↔_, inl, inr, ⊎-elim}
+use mathlib.Core.List.{List}
+use mathlib.Core.Logic.{_⊎_, _↔_, inl, inr}
 use native.Mathlib.Omega.{arith}
 use native.Mathlib.Numerals.{add-one}
 use lib.ListN.{length, getD, take, drop}
 use lib.Seq.{take-append-seam}
 use Rattle.index.specs.declared.Kind.the-variants.{Membership}
-use Rattle.index.specs.Letters.{rightCount, allRights, In}
+use Rattle.index.specs.Letters.{rightCount}
 use Rattle.index.specs.Numbers.{Each}
 use Rattle.index.specs.Block.{IsName, Good}
 use Rattle.index.specs.Calls.{blockNeeds}
@@ -19,14 +19,13 @@ use Rattle.index.proofs.laws.message.Packing.{at-each}
 use Rattle.directory.proofs.Numbered.{id-name}
 use Rattle.rights.specs.Held.{Carries, Holds}
 use Rattle.rights.specs.Profiles.{ordinary, IsProfile, HoldsIn, profileOf}
-use Rattle.rights.specs.declared.Profile.the-variants.{Ordinary}
 use Rattle.rights.specs.Questions.{questionNeeds, Limited, Reports, unreported, Full}
 use Rattle.rights.specs.Through.{throughNeeds}
 use Rattle.rights.proofs.laws.ByNumber.{net-where}
 use Rattle.rights.proofs.laws.questions.Letting.{Named}
 use Rattle.slips.specs.Slip.{Names, ZeroAlone, Slip}
 use Rattle.slips.specs.Calls.{ForRight, OneRight, IsChain, checkNeeds, Judged, ChecksSlip, Outcome, findNeeds, Found, NoneFound, FindsSlip}
-use Rattle.slips.proofs.laws.Naming.{slip-holds, holds-slip}
+use Rattle.slips.proofs.laws.Naming.{slip-holds}
 use Rattle.slips.proofs.laws.Rights.{right-of-one, for-right}
 use Rattle.slips.proofs.laws.Checking.{right-small}
 

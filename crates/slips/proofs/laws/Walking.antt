@@ -1,6 +1,6 @@
 -- The walk of one side for one right: a record that is looked at, those of a name, a round, and the rounds.
 use Prim.Native.Nat.{ℕ, _+_, _<_, _≤_}
-use mathlib.Core.Path.{_≡_, refl, sym, ap, subst, _∙_}
+use mathlib.Core.Path.{_≡_, sym, ap, subst, _∙_}
 use mathlib.Core.List.{List}
 use mathlib.Core.Logic.{_⊎_, inl, inr, ⊎-elim}
 use native.Mathlib.Omega.{arith}
@@ -15,7 +15,7 @@ use Rattle.directory.proofs.Numbered.{key-name, id-name, keys-rise}
 use Rattle.rights.specs.Held.{Carries, chainLimit}
 use Rattle.rights.proofs.laws.ByNumber.{at-self, net-at}
 use Rattle.rights.proofs.laws.walk.Fronts.{at-set}
-use Rattle.slips.specs.work.Trails.{far, at, Led, Back, Walk, Listed, Within, Done, Trails, Begins}
+use Rattle.slips.specs.work.Trails.{far, at, Led, Walk, Listed, Within, Done, Trails, Begins}
 use Rattle.slips.proofs.laws.Listing.{place, within-set, set-within}
 
 module _ {b : List ℕ} {k start n lo hi p i : ℕ} {steps before order : List ℕ} {len : ℕ} (t : Trails b k start n lo hi p i steps before order len) where

@@ -1,5 +1,5 @@
 -- For proofs only: how the finder walks. For each name how many records the shortest chain from the start has, and the name before it on that chain.
-use Prim.Native.Nat.{ℕ, _+_, _-_, _<_, _≤_}
+use Prim.Native.Nat.{ℕ, _+_, _<_, _≤_}
 use mathlib.Core.Path.{_≡_}
 use mathlib.Core.Bool.{cond}
 use mathlib.Core.List.{List}

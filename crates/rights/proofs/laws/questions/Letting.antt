@@ -1,6 +1,6 @@
 -- What the filters and exclusive groups let through: one answer, and what it says to the calls that ask it first.
-use Prim.Native.Nat.{ℕ, _<_}
-use mathlib.Core.Path.{_≡_, refl, sym, ap, _∙_}
+use Prim.Native.Nat.{ℕ}
+use mathlib.Core.Path.{_≡_, refl, sym, _∙_}
 use mathlib.Core.List.{List, [], _∷_, _++_}
 use mathlib.Core.Logic.{inl, inr}
 use native.Mathlib.Omega.{arith}
@@ -11,7 +11,6 @@ use Rattle.index.specs.Calls.{blockNeeds}
 use Rattle.index.proofs.laws.Firsts.{All, first-passed, first-refused, first-all, refused-first}
 use Rattle.index.proofs.laws.OneFirst.{one-first}
 use Rattle.index.proofs.laws.block.Masks.{mask-map, mask-one}
-use Rattle.rights.specs.declared.Through.{Through}
 use Rattle.rights.specs.declared.Through.the-variants as through
 use Rattle.rights.specs.Groups.{Open}
 use Rattle.rights.specs.Held.{Passes, chainLimit}

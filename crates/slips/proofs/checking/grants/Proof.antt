@@ -1,5 +1,4 @@
 -- `checking::grants` meets its contract: the last names of the two lists.
-use native.Mathlib.Omega.{arith}
 use borrow.Author.Needs.{needs}
 use Rattle.slips.proofs.checking.grants.Statement.{statement}
 use Rattle.slips.proofs.checking.grants.Tie as tie

@@ -1,6 +1,6 @@
 -- `checking::is_zero_alone` meets its contract: one name, which is 0.
 use Prim.Native.Nat.{ℕ}
-use mathlib.Core.Path.{_≡_, refl, ap}
+use mathlib.Core.Path.{_≡_, ap}
 use mathlib.Core.List.{List, [], _∷_}
 use native.Mathlib.Omega.{arith}
 use borrow.Author.Needs.{needs}
@@ -13,7 +13,7 @@ use Rattle.slips.proofs.checking.is_zero_alone.Statement.{statement}
 use Rattle.slips.proofs.checking.is_zero_alone.Tie as tie
 
 returns : tie.Need-returns
-returns c = λ e. c .if1 .taken (ap length e)
+returns c = λ e. omega (arith, ap length e, c .if1 .taken)
 
 zero : (l : List ℕ) → length l ≡ 1 → getD l 0 0 ≡ 0 → ZeroAlone l
 zero [] e z = absurd (omega arith)
@@ -24,7 +24,7 @@ alone : (l : List ℕ) → length l ≡ 1 → Says (ZeroAlone l) (eqb (getD l 0 
 alone l e = says-same (eqb (getD l 0 0) 0) (zero l e) (ap (λ (l : List ℕ). getD l 0 0)) (equal-says (getD l 0 0) 0)
 
 returns-2 : tie.Need-returns-2
-returns-2 c = alone (c .before .before .args .names .now) (c .before .if1 .left)
+returns-2 c = alone (c .before .before .args .names .now) (omega (arith, c .before .if1 .left))
 
 pub is-zero-alone-spec : {M : Type 1} → statement M
 is-zero-alone-spec = tie.close (tie.spec returns (λ c. search needs) returns-2)

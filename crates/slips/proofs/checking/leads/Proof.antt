@@ -29,11 +29,11 @@ has-net-requires c κs = (c .before .before .before .before .before .before .bef
 
 returns-2 : tie.Need-returns-2 Inv-loop μ-loop
 unfolding Carries
-returns-2 c = λ n. no-not (c .before .has-net .result) (c .if2 .taken) (n .linked (c .before .before .before .before .before .loop .i) (c .before .before .before .before .loop-test .taken)) (c .before .has-net .ensures)
+returns-2 c = λ n. no-not (c .before .has-net .result) (c .if2 .taken) (n .linked (c .before .before .before .before .before .loop .i) (omega (arith, c .before .before .before .before .loop-test .taken))) (c .before .has-net .ensures)
 
 loop-again : tie.Need-loop-again Inv-loop μ-loop
 unfolding Carries
-loop-again c = (c .before .before .before .before .loop-test .taken, below-more _ _ (c .before .before .before .before .before .loop .inv .1) (yes-not (c .before .has-net .result) (c .if2 .left) (c .before .has-net .ensures)))
+loop-again c = (omega (arith, c .before .before .before .before .loop-test .taken), below-more _ _ (c .before .before .before .before .before .loop .inv .1) (yes-not (c .before .has-net .result) (c .if2 .left) (c .before .has-net .ensures)))
 
 returns-3 : tie.Need-returns-3 Inv-loop μ-loop
 returns-3 c = record {

@@ -3,7 +3,7 @@ use Prim.Native.Nat.{_-_, _≤_}
 use native.Mathlib.Omega.{arith}
 use borrow.Author.Needs.{needs}
 use Rattle.index.specs.declared.Kind.the-variants.{Permission}
-use Rattle.slips.specs.work.Trails.{Nearest, Granted}
+use Rattle.slips.specs.work.Trails.{Nearest}
 use Rattle.slips.proofs.laws.Parts.{in-part}
 use Rattle.slips.proofs.laws.Nearer.{none-yet, is-nearest, is-nowhere}
 use Rattle.slips.proofs.finding.nearest.Statement.{statement}

@@ -1,15 +1,12 @@
 -- `finding::sought` meets its contract: the walks of both sides, the nearest granting record, and the names on the way to it.
-use Prim.Native.Nat.{ℕ, _/_, _%_, _<_}
-use mathlib.Core.Path.{_≡_, refl, subst}
+use mathlib.Core.Path.{refl, subst}
 use mathlib.Core.Logic.{inl, inr}
 use native.Mathlib.Omega.{arith}
 use borrow.Author.Needs.{needs}
 use Rattle.index.specs.declared.Kind.the-variants.{Permission}
-use Rattle.index.specs.Block.{key, id, records}
 use Rattle.index.proofs.laws.block.Records.{of-records}
 use Rattle.directory.proofs.Numbered.{pair-key, pair-id}
 use Rattle.rights.specs.Held.{Holds}
-use Rattle.slips.specs.declared.finding.Grant.the-variants as grant
 use Rattle.slips.specs.work.Trails.{Granted}
 use Rattle.slips.proofs.laws.Rights.{right-is, for-right}
 use Rattle.slips.proofs.laws.Finding.{backs, short, not-held, granting, user-reached, object-reached, is-found}

@@ -1,12 +1,11 @@
 -- `starts::note_starts` meets its contract. The loop's invariant: the records from number i on are noted.
 use Prim.Native.Nat.{_≤_, _%_, _-_, _<_}
 use mathlib.Core.Path.{_≡_, subst, _∙_}
-use mathlib.Core.List.{List}
 use native.Mathlib.Omega.{arith}
 use borrow.Author.Needs.{needs}
 use lib.ListN.{length, length-set}
 use Rattle.index.specs.declared.Kind.the-variants.{Membership}
-use Rattle.index.specs.Block.{nameCount, records, size, key, Of}
+use Rattle.index.specs.Block.{nameCount, size, key, Of}
 use Rattle.index.proofs.laws.block.Records.{few-records, of-records}
 use Rattle.directory.proofs.Numbered.{pair-key, key-name}
 use Rattle.slips.specs.work.Trails.{Begins}

@@ -1,9 +1,9 @@
 -- `testing::all_names` meets its contract: each number of the list is tested.
-use Prim.Native.Nat.{ℕ, _-_, _<_, _≤_}
+use Prim.Native.Nat.{ℕ, _-_, _<_}
 use native.Mathlib.Omega.{arith}
 use borrow.Author.Count.{below-none, below-more}
 use borrow.Author.Needs.{needs}
-use lib.ListN.{length, getD}
+use lib.ListN.{getD}
 use Rattle.index.specs.Block.{IsName}
 use Rattle.index.proofs.laws.message.Packing.{each-at, at-each}
 use Rattle.slips.proofs.testing.all_names.Statement.{statement}
