@@ -1,6 +1,6 @@
 /* Tests what the header gives beside the calls of the rules, as C99 and as C++11: the inline functions, messages and wide messages, the
  * longest text, the places of wrong texts, the parts of a full question's answer, both profiles, the calls that go through a block
- * record by record, a directory, dates, and appointments with each number of each call for them. */
+ * record by record, a directory, dates, and appointments and slips with each number of each call for them. */
 #include "anaqsiro.h"
 
 #include <stdio.h>
@@ -12,7 +12,7 @@
 #define LANGUAGE "C"
 #endif
 
-enum { KEY = 7, ROOM = 4, MEMBERSHIPS = 8, DENYING = 13 };
+enum { KEY = 7, ROOM = 4, MEMBERSHIPS = 8, DENYING = 13, GRANTING = 10, START = 100, END = 133, PLACES = 1000 };
 
 static unsigned tests, failures;
 
@@ -56,6 +56,7 @@ static void test_lengths(void) {
     same("the longest list of appointments", ANAQSIRO_APPOINTMENTS_MAX, 3072);
     same("the first day", anaqsiro_day(ANAQSIRO_FIRST_YEAR, 1, 1), 0);
     same("the last day", anaqsiro_day(ANAQSIRO_LAST_YEAR, 12, 31), ANAQSIRO_LAST_DAY);
+    same("the longest chain", ANAQSIRO_CHAIN_MAX, 33);
 }
 
 /* Each mask as letters and back, and words that are not in order, empty, or of other bytes. */
@@ -86,12 +87,15 @@ static void test_refusals(void) {
     same_words("0", anaqsiro_refusal_text(0), "accepted");
     same_words("1", anaqsiro_refusal_text(1), lengths);
     for (uint64_t number = 0; number <= ANAQSIRO_PROFILE; number++) {
-        const int known = number != 11 && number != 14;
+        const int known = number != 14;
         same("known", strcmp(anaqsiro_refusal_text(number), "unknown") != 0, known);
         for (uint64_t before = 0; known && before < number; before++) {
             same("own words", strcmp(anaqsiro_refusal_text(number), anaqsiro_refusal_text(before)) == 0, 0);
         }
     }
+    same_words("10", anaqsiro_refusal_text(10),
+               "text longer than the output buffer; a list lent for a slip has fewer than 33 places");
+    same_words("11", anaqsiro_refusal_text(11), "a checked chain has 0 or more than 33 names");
     same_words("12", anaqsiro_refusal_text(12),
                "a 257th appointment, a date that is none, or a day, date, term or anniversary outside the range");
     same_words("13", anaqsiro_refusal_text(13), "the lent directory has the wrong length or is not the block's own");
@@ -679,14 +683,25 @@ static void test_left_behind(void) {
     same("by it again", call_may(&one, one.directory, sizeof one.block, ANAQSIRO_DIRECTORY_LENGTH), 1);
 }
 
-/* Sets with denials, DENYING records in all. 1 and 4 are in group 2, and in 3 for reading alone; KEY is in group 8, and in 9 for
- * reading alone. */
-struct denying {
+/* A set as text. */
+struct keyed {
     uint64_t kind, key;
     const char *text;
 };
 
-static const struct denying denying[] = {
+/* Makes a block of these sets, and gives how many records they have. */
+static uint64_t make_of(uint8_t *block, size_t len, const struct keyed *sets, size_t how_many) {
+    uint64_t records = 0;
+    anaqsiro_make(block, len);
+    for (const struct keyed *one = sets; one < sets + how_many; one++) {
+        records += anaqsiro_read(block, len, one->kind, one->key, (const uint8_t *)one->text, strlen(one->text));
+    }
+    return records;
+}
+
+/* Sets with denials, DENYING records in all. 1 and 4 are in group 2, and in 3 for reading alone; KEY is in group 8, and in 9 for
+ * reading alone. */
+static const struct keyed denying[] = {
     {ANAQSIRO_MEMBERSHIP, 1, "2;MRUP;3;R"},
     {ANAQSIRO_MEMBERSHIP, 4, "2;MRUP;3;R"},
     {ANAQSIRO_MEMBERSHIP, KEY, "8;MRUP;9;R"},
@@ -703,13 +718,7 @@ struct asked {
 };
 
 static void make_asked(struct asked *one) {
-    uint64_t records = 0;
-    anaqsiro_make(one->block, sizeof one->block);
-    for (const struct denying *set = denying; set < denying + sizeof denying / sizeof *denying; set++) {
-        const uint8_t *text = (const uint8_t *)set->text;
-        records += anaqsiro_read(one->block, sizeof one->block, set->kind, set->key, text, strlen(set->text));
-    }
-    same("records", records, DENYING);
+    same("records", make_of(one->block, sizeof one->block, denying, sizeof denying / sizeof *denying), DENYING);
     anaqsiro_directory(one->block, sizeof one->block, one->directory, ANAQSIRO_DIRECTORY_LENGTH);
 }
 
@@ -1017,6 +1026,257 @@ static void test_moves(void) {
     move_refused("not good", block, sizeof block, list, 1, 0, 0, ANAQSIRO_BLOCK_NOT_GOOD);
 }
 
+/* The parts of each answer that a finder can give, and of one that says none or was refused. */
+static void test_names_of_slips(void) {
+    for (uint64_t pair = 0; pair < ANAQSIRO_CHAIN_MAX * ANAQSIRO_CHAIN_MAX; pair++) {
+        const uint64_t user = 1 + pair / ANAQSIRO_CHAIN_MAX, object = 1 + pair % ANAQSIRO_CHAIN_MAX;
+        same("names on the user's chain", anaqsiro_user_names(user + 256 * object), user);
+        same("names on the object's chain", anaqsiro_object_names(user + 256 * object), object);
+    }
+    for (uint64_t number = 0; number <= ANAQSIRO_PROFILE; number++) {
+        same("no names", anaqsiro_user_names(number << 32) + anaqsiro_object_names(number << 32), 0);
+    }
+}
+
+/* Sets with grants, GRANTING records in all. 1 is in group 2, which is in 3 for reading and updating; KEY is in group 8. 5 is bound
+ * to group 6, and may update everything that is open to it. Over 12, which 3 leads to in two steps, 1 may update KEY by a slip with
+ * one name more. */
+static const struct keyed granting[] = {
+    {ANAQSIRO_MEMBERSHIP, 1, "2;MRUP"},  {ANAQSIRO_MEMBERSHIP, 2, "3;RU"},     {ANAQSIRO_MEMBERSHIP, 3, "11;U"},
+    {ANAQSIRO_MEMBERSHIP, 5, "6;MRUPX"}, {ANAQSIRO_MEMBERSHIP, KEY, "8;MRUP"}, {ANAQSIRO_MEMBERSHIP, 11, "12;U"},
+    {ANAQSIRO_PERMISSION, 0, "5;U"},     {ANAQSIRO_PERMISSION, KEY, "12;U"},   {ANAQSIRO_PERMISSION, 8, "3;MRU"},
+    {ANAQSIRO_FILTER, 8, "20;MU"},
+};
+
+/* A block of them with a chain of memberships from START to END besides, one more than a chain may have. END is granted updating on
+ * 9, and what stands before it reading; 1 is granted the same on these two. */
+struct slipped {
+    uint8_t block[ANAQSIRO_BLOCK_MIN + (GRANTING + END - START + 4) * ANAQSIRO_RECORD];
+    uint16_t user_chain[PLACES], object_chain[PLACES];
+};
+
+/* Adds a record to it. */
+static void add(struct slipped *one, uint64_t kind, uint64_t key, uint64_t id, uint64_t mask) {
+    const struct anaqsiro_half half = {key, id, mask};
+    uint8_t message[ANAQSIRO_MESSAGE];
+    anaqsiro_put_message(message, kind, NULL, &half);
+    same("a record more", anaqsiro_message(one->block, sizeof one->block, message, sizeof message), 0);
+}
+
+static void make_slipped(struct slipped *one) {
+    same("records", make_of(one->block, sizeof one->block, granting, sizeof granting / sizeof *granting), GRANTING);
+    for (uint64_t name = START; name < END; name++) {
+        add(one, ANAQSIRO_MEMBERSHIP, name, name + 1, ANAQSIRO_READ | ANAQSIRO_UPDATE);
+    }
+    add(one, ANAQSIRO_PERMISSION, 9, END, ANAQSIRO_UPDATE);
+    add(one, ANAQSIRO_PERMISSION, 9, END - 1, ANAQSIRO_READ);
+    add(one, ANAQSIRO_PERMISSION, END, 1, ANAQSIRO_UPDATE);
+    add(one, ANAQSIRO_PERMISSION, END - 1, 1, ANAQSIRO_READ);
+}
+
+/* A question about one right, and how many names a slip has for it on each list. The names of a list are the first ones here, or
+ * those from START on. */
+struct wanted {
+    const char *what;
+    uint64_t user, object, right;
+    size_t user_names, object_names;
+    uint16_t user_chain[3], object_chain[3];
+};
+
+static const struct wanted wanted_slips[] = {
+    {"by groups of both", 1, KEY, ANAQSIRO_UPDATE, 3, 2, {1, 2, 3}, {KEY, 8, 0}},
+    {"by 0", 5, 9, ANAQSIRO_UPDATE, 1, 1, {5, 0, 0}, {0, 0, 0}},
+    {"32 steps of hers", START, 9, ANAQSIRO_READ, ANAQSIRO_CHAIN_MAX, 1, {START, 0, 0}, {9, 0, 0}},
+    {"32 steps of the object's", 1, START, ANAQSIRO_READ, 1, ANAQSIRO_CHAIN_MAX, {1, 0, 0}, {START, 0, 0}},
+    {"33 steps of hers", START, 9, ANAQSIRO_UPDATE, 0, 0, {0, 0, 0}, {0, 0, 0}},
+    {"33 steps of the object's", 1, START, ANAQSIRO_UPDATE, 0, 0, {0, 0, 0}, {0, 0, 0}},
+    {"not carried", 1, KEY, ANAQSIRO_CREATE, 0, 0, {0, 0, 0}, {0, 0, 0}},
+    {"filtered", 1, KEY, ANAQSIRO_READ, 0, 0, {0, 0, 0}, {0, 0, 0}},
+    {"not granted", 1, KEY, ANAQSIRO_DELETE, 0, 0, {0, 0, 0}, {0, 0, 0}},
+    {"not open to her", 5, KEY, ANAQSIRO_UPDATE, 0, 0, {0, 0, 0}, {0, 0, 0}},
+};
+
+/* The finder and the checker, on lists of the one block. */
+static uint64_t find(struct slipped *one, const struct wanted *slip, size_t user_len, size_t object_len) {
+    memset(one->user_chain, 0xFF, sizeof one->user_chain);
+    memset(one->object_chain, 0xFF, sizeof one->object_chain);
+    return anaqsiro_find_slip(one->block, sizeof one->block, slip->user, slip->object, slip->right, one->user_chain, user_len,
+                              one->object_chain, object_len);
+}
+
+static uint64_t check(const struct slipped *one, const struct wanted *slip) {
+    return anaqsiro_check_slip(one->block, sizeof one->block, slip->user, slip->object, slip->right, one->user_chain,
+                               slip->user_names, one->object_chain, slip->object_names);
+}
+
+/* The list has these names in front, and after them what stood there before the finder. */
+static void same_list(const char *what, const uint16_t *list, const uint16_t *names, size_t how_many) {
+    for (size_t i = 0; i < PLACES; i++) {
+        const int from_start = how_many == ANAQSIRO_CHAIN_MAX;
+        same(what, list[i], i >= how_many ? 0xFFFF : from_start ? START + i : names[i]);
+    }
+}
+
+/* A lent list of so many places: what is found, and that it is right. */
+static void same_slip(struct slipped *one, const struct wanted *slip, size_t user_len, size_t object_len) {
+    const uint64_t found = find(one, slip, user_len, object_len);
+    same(slip->what, anaqsiro_number(found), ANAQSIRO_ACCEPTED);
+    same(slip->what, anaqsiro_user_names(found), slip->user_names);
+    same(slip->what, anaqsiro_object_names(found), slip->object_names);
+    same_list(slip->what, one->user_chain, slip->user_chain, slip->user_names);
+    same_list(slip->what, one->object_chain, slip->object_chain, slip->object_names);
+    if (anaqsiro_value(found) != 0) {
+        same(slip->what, check(one, slip), 1);
+    }
+}
+
+/* What is found with lists of 33 places and of more, and that it is refused with 10 with fewer, also where there is no slip. */
+static void test_found_slips(void) {
+    static const size_t few[] = {0, 1, ANAQSIRO_CHAIN_MAX - 1};
+    struct slipped one;
+    make_slipped(&one);
+    for (const struct wanted *slip = wanted_slips; slip < wanted_slips + sizeof wanted_slips / sizeof *wanted_slips; slip++) {
+        same_slip(&one, slip, ANAQSIRO_CHAIN_MAX, ANAQSIRO_CHAIN_MAX);
+        same_slip(&one, slip, PLACES, ANAQSIRO_CHAIN_MAX + 1);
+        for (size_t i = 0; i < sizeof few / sizeof *few; i++) {
+            same("few places for hers", find(&one, slip, few[i], PLACES), (uint64_t)ANAQSIRO_TEXT_LONG << 32);
+            same("few places for the object's", find(&one, slip, PLACES, few[i]), (uint64_t)ANAQSIRO_TEXT_LONG << 32);
+            same_list("as it was", one.user_chain, NULL, 0);
+            same_list("as it was", one.object_chain, NULL, 0);
+        }
+    }
+}
+
+/* The finder and the checker give these numbers on so many bytes of the block, and nothing changes: the lists have the slip that is
+ * found, where one is. */
+static void both_give(const char *what, struct slipped *one, size_t len, const struct wanted *slip, uint32_t found,
+                      uint32_t checked) {
+    const struct slipped before = *one;
+    const uint64_t finds = anaqsiro_find_slip(one->block, len, slip->user, slip->object, slip->right, one->user_chain,
+                                              slip->user_names, one->object_chain, slip->object_names);
+    const uint64_t checks = anaqsiro_check_slip(one->block, len, slip->user, slip->object, slip->right, one->user_chain,
+                                                slip->user_names, one->object_chain, slip->object_names);
+    same(what, anaqsiro_number(finds), found);
+    same(what, anaqsiro_number(checks), checked);
+    same(what, found == ANAQSIRO_ACCEPTED || anaqsiro_value(finds) == 0, 1);
+    same(what, checked == ANAQSIRO_ACCEPTED || anaqsiro_value(checks) == 0, 1);
+    same(what, memcmp(one, &before, sizeof before) == 0, 1);
+}
+
+/* The numbers with lists of these lengths. Then more goes wrong, and each time the number is that of what is looked at first. */
+static void each_number(struct slipped *one, size_t user_len, size_t object_len, uint32_t found, uint32_t checked) {
+    static const uint64_t wrong_rights[] = {0, 3, 5, 15, 16, 32, ((uint64_t)1 << 32) + 4, UINT64_MAX};
+    struct wanted slip = wanted_slips[0];
+    slip.user_names = user_len;
+    slip.object_names = object_len;
+    both_give("accepted or the last", one, sizeof one->block, &slip, found, checked);
+    for (size_t i = 0; i < sizeof wrong_rights / sizeof *wrong_rights; i++) {
+        slip.right = wrong_rights[i];
+        both_give("not one right", one, sizeof one->block, &slip, ANAQSIRO_MASK, ANAQSIRO_MASK);
+    }
+    slip.user = ANAQSIRO_NAMES;
+    both_give("a user above all", one, sizeof one->block, &slip, ANAQSIRO_NAME, ANAQSIRO_NAME);
+    slip.user = 1;
+    slip.object = ((uint64_t)1 << 32) + KEY;
+    both_give("an object above all", one, sizeof one->block, &slip, ANAQSIRO_NAME, ANAQSIRO_NAME);
+    both_give("cut off", one, ANAQSIRO_BLOCK_MIN, &slip, ANAQSIRO_BLOCK_NOT_GOOD, ANAQSIRO_BLOCK_NOT_GOOD);
+    both_give("too short", one, ANAQSIRO_BLOCK_MIN - 1, &slip, ANAQSIRO_BLOCK_LENGTH, ANAQSIRO_BLOCK_LENGTH);
+}
+
+/* Each number of both calls, with lists of each length that matters. */
+static void test_numbers_of_slips(void) {
+    static const size_t lengths[] = {0, 1, ANAQSIRO_CHAIN_MAX - 1, ANAQSIRO_CHAIN_MAX, ANAQSIRO_CHAIN_MAX + 1, PLACES};
+    const size_t how_many = sizeof lengths / sizeof *lengths;
+    struct slipped one;
+    make_slipped(&one);
+    memset(one.user_chain, 0, sizeof one.user_chain);
+    memset(one.object_chain, 0, sizeof one.object_chain);
+    memcpy(one.user_chain, wanted_slips[0].user_chain, 3 * sizeof *one.user_chain);
+    memcpy(one.object_chain, wanted_slips[0].object_chain, 2 * sizeof *one.object_chain);
+    for (size_t pair = 0; pair < how_many * how_many; pair++) {
+        const size_t user_len = lengths[pair / how_many], object_len = lengths[pair % how_many];
+        const int few = user_len < ANAQSIRO_CHAIN_MAX || object_len < ANAQSIRO_CHAIN_MAX;
+        const int none = user_len == 0 || object_len == 0;
+        const int many = user_len > ANAQSIRO_CHAIN_MAX || object_len > ANAQSIRO_CHAIN_MAX;
+        each_number(&one, user_len, object_len, few ? ANAQSIRO_TEXT_LONG : ANAQSIRO_ACCEPTED,
+                    none || many ? ANAQSIRO_CHAIN_LENGTH : ANAQSIRO_ACCEPTED);
+    }
+}
+
+/* Each name on a slip changed to each other one, and to numbers that are no names: no, and refused with 4, before 5 and 11. */
+static void forge_name(struct slipped *one, struct wanted *slip, uint16_t *name) {
+    const uint16_t right = *name;
+    for (uint32_t other = 0; other < 2 * ANAQSIRO_NAMES; other++) {
+        *name = (uint16_t)other;
+        same("another name", check(one, slip), other < ANAQSIRO_NAMES ? other == right : (uint64_t)ANAQSIRO_NAME << 32);
+    }
+    *name = 0xFFFF;
+    slip->right = 0;
+    same("before 5", check(one, slip), (uint64_t)ANAQSIRO_NAME << 32);
+    slip->right = ANAQSIRO_UPDATE;
+    *name = right;
+}
+
+static void test_forged_slips(void) {
+    struct wanted slip = wanted_slips[0];
+    struct slipped one;
+    make_slipped(&one);
+    find(&one, &slip, PLACES, PLACES);
+    for (size_t i = 0; i < slip.user_names; i++) {
+        forge_name(&one, &slip, &one.user_chain[i]);
+    }
+    for (size_t i = 0; i < slip.object_names; i++) {
+        forge_name(&one, &slip, &one.object_chain[i]);
+    }
+    for (uint64_t right = ANAQSIRO_CREATE; right <= ANAQSIRO_DELETE; right *= 2) {
+        slip.right = right;
+        same("another right", check(&one, &slip), right == ANAQSIRO_UPDATE);
+    }
+    slip = wanted_slips[0];
+    slip.user = 2;
+    same("another user", check(&one, &slip), 0);
+    slip.user = 1;
+    slip.object = 8;
+    same("another object", check(&one, &slip), 0);
+}
+
+/* A name above all is found far behind, where a list is too long by far. */
+static void test_long_lists(void) {
+    struct wanted slip = wanted_slips[0];
+    struct slipped one;
+    make_slipped(&one);
+    memset(one.user_chain, 0, sizeof one.user_chain);
+    memset(one.object_chain, 0, sizeof one.object_chain);
+    slip.user_names = slip.object_names = PLACES;
+    same("long lists", check(&one, &slip), (uint64_t)ANAQSIRO_CHAIN_LENGTH << 32);
+    one.user_chain[PLACES - 1] = ANAQSIRO_NAMES;
+    same("the last of hers", check(&one, &slip), (uint64_t)ANAQSIRO_NAME << 32);
+    one.user_chain[PLACES - 1] = 0;
+    one.object_chain[PLACES - 1] = ANAQSIRO_NAMES;
+    same("the last of the object's", check(&one, &slip), (uint64_t)ANAQSIRO_NAME << 32);
+}
+
+/* 0 by itself is for every object; with names before it or after it, it is a name as another. */
+static void test_0_by_itself(void) {
+    struct wanted slip = wanted_slips[1];
+    struct slipped one;
+    make_slipped(&one);
+    find(&one, &slip, PLACES, PLACES);
+    same("by itself", check(&one, &slip), 1);
+    one.object_chain[1] = 0;
+    slip.object_names = 2;
+    same("before itself", check(&one, &slip), 0);
+    one.object_chain[0] = 9;
+    same("after the object", check(&one, &slip), 0);
+    slip.object_names = 1;
+    same("the object alone", check(&one, &slip), 0);
+    slip.object = 0;
+    one.object_chain[0] = 0;
+    same("as the object", check(&one, &slip), 1);
+    slip.object = KEY;
+    same("where the object is not open to her", check(&one, &slip), 0);
+}
+
 int main(void) {
     test_version();
     test_lengths();
@@ -1049,6 +1309,12 @@ int main(void) {
     test_lists();
     test_terms();
     test_moves();
+    test_names_of_slips();
+    test_found_slips();
+    test_numbers_of_slips();
+    test_forged_slips();
+    test_long_lists();
+    test_0_by_itself();
     printf("include/anaqsiro.h as " LANGUAGE ": %u tests, %u failed\n", tests, failures);
     return failures > 0;
 }

@@ -2,8 +2,10 @@
  * that lost its paint is looked for. The blocks are such that each call goes as deep as it can: a chain of 40 records for the
  * questions, with X in the one that a chain may end with and a denial at the end of both chains, a count of five digits for the
  * text, for the messages one that inserts and one that puts back what it took, with 64 pairs in a half of the wide ones, for the
- * moves lists of 256 appointments. Questions are asked in both profiles. The calls by a directory are made on the same blocks. It
- * fails where a call takes more than LIMIT, or gives another number than it is to: a call that is refused too early takes little. */
+ * moves lists of 256 appointments, for slips one with 33 names on either list. Questions are asked in both profiles. The calls by a
+ * directory are made on the same blocks. It fails where a call takes more than LIMIT, the finder of slips more than FIND_LIMIT, or
+ * where one gives another number than it is to: a call that is refused too early takes little, and so does a slip that is not found
+ * or not right. */
 #define _GNU_SOURCE
 #include "anaqsiro.h"
 
@@ -16,6 +18,7 @@
 #define LAST 32u
 #define PAIRS (ANAQSIRO_LIST_MAX * ANAQSIRO_LIST_MAX)
 #define LIMIT (24u * 1024u)
+#define FIND_LIMIT (32u * 1024u)
 #define JANUARY 19723u
 #define FEBRUARY 19754u
 
@@ -29,13 +32,14 @@ static const uint8_t text[] = "1;M65535R2;7;MRUPmrup65535";
 static ucontext_t host, guest;
 static uint64_t answer;
 static uint64_t (*call)(void);
-static size_t depth, deepest;
+static size_t depth;
 static unsigned failures;
 static uint8_t update[ANAQSIRO_MESSAGE];
 static uint8_t wide_update[ANAQSIRO_WIDE_MAX];
 static size_t wide_length;
 static uint8_t list[ANAQSIRO_APPOINTMENTS_MAX];
 static uint64_t old_day, new_day;
+static uint16_t user_chain[ANAQSIRO_CHAIN_MAX], object_chain[ANAQSIRO_CHAIN_MAX];
 
 static void add(uint64_t kind, uint64_t key, uint64_t id, uint64_t mask) {
     const struct anaqsiro_half half = {key, id, mask};
@@ -113,6 +117,14 @@ static uint64_t call_read_by(void) {
 static uint64_t call_move(void) { return anaqsiro_move(block, sizeof block, list, sizeof list, old_day, new_day); }
 static uint64_t call_next_change(void) { return anaqsiro_next_change(list, sizeof list, JANUARY); }
 static uint64_t call_stands(void) { return anaqsiro_stands(list, ANAQSIRO_APPOINTMENT, JANUARY); }
+static uint64_t call_find_slip(void) {
+    return anaqsiro_find_slip(block, sizeof block, 1, 1, ANAQSIRO_UPDATE, user_chain, ANAQSIRO_CHAIN_MAX, object_chain,
+                              ANAQSIRO_CHAIN_MAX);
+}
+static uint64_t call_check_slip(void) {
+    return anaqsiro_check_slip(block, sizeof block, 1, 1, ANAQSIRO_UPDATE, user_chain, ANAQSIRO_CHAIN_MAX, object_chain,
+                               ANAQSIRO_CHAIN_MAX);
+}
 static uint64_t call_day(void) { return anaqsiro_day(ANAQSIRO_LAST_YEAR, 12, 31); }
 static uint64_t call_date(void) { return anaqsiro_date(ANAQSIRO_LAST_DAY); }
 static uint64_t call_tested(void) { return anaqsiro_tested(block, sizeof block); }
@@ -137,6 +149,9 @@ struct named {
     uint64_t (*call)(void);
 };
 
+/* The most that a call may take. */
+static size_t limit_of(const struct named *what) { return what->call == call_find_slip ? FIND_LIMIT : LIMIT; }
+
 /* Measures a call that is to give the number. */
 static void measure(const struct named *what, uint32_t number) {
     memset(stack, PAINT, sizeof stack);
@@ -149,7 +164,10 @@ static void measure(const struct named *what, uint32_t number) {
     swapcontext(&host, &guest);
     printf("%-26s %6zu bytes of stack (number %u, value %u)\n", what->name, depth, anaqsiro_number(answer),
            anaqsiro_value(answer));
-    deepest = depth > deepest ? depth : deepest;
+    if (depth > limit_of(what)) {
+        printf("%s: it is to take no more than %zu bytes\n", what->name, limit_of(what));
+        failures++;
+    }
     if (anaqsiro_number(answer) != number) {
         printf("%s: it is to give the number %u\n", what->name, number);
         failures++;
@@ -172,6 +190,8 @@ static const struct named by[CALLS] = {
 };
 
 static const struct named move = {"anaqsiro_move", call_move};
+static const struct named find_slip = {"anaqsiro_find_slip", call_find_slip};
+static const struct named check_slip = {"anaqsiro_check_slip", call_check_slip};
 
 /* The other calls, on the block and the list that those leave. */
 static const struct named others[] = {
@@ -219,12 +239,31 @@ static void measure_moves(void) {
     measure(&move, ANAQSIRO_NO_ROOM);
 }
 
+/* The value that a call for slips gave is the one that it is to give. */
+static void measure_slip(const struct named *what, uint32_t value) {
+    measure(what, ANAQSIRO_ACCEPTED);
+    if (anaqsiro_value(answer) != value) {
+        printf("%s: it is to give the value %u\n", what->name, value);
+        failures++;
+    }
+}
+
+/* What is granted is granted at the ends of both chains alone, so that the slip has as many names as any can have. */
+static void measure_slips(void) {
+    make_chain();
+    anaqsiro_read(block, sizeof block, ANAQSIRO_PERMISSION, 1, NULL, 0);
+    add(ANAQSIRO_PERMISSION, LAST + 1, LAST + 1, ANAQSIRO_UPDATE);
+    measure_slip(&find_slip, ANAQSIRO_CHAIN_MAX + 256u * ANAQSIRO_CHAIN_MAX);
+    measure_slip(&check_slip, 1);
+}
+
 int main(void) {
     measure_rules(without);
     measure_rules(by);
     measure_moves();
+    measure_slips();
     for (size_t i = 0; i < sizeof others / sizeof *others; i++) {
         measure(&others[i], ANAQSIRO_ACCEPTED);
     }
-    return deepest > LIMIT || failures > 0;
+    return failures > 0;
 }

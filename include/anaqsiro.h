@@ -11,10 +11,10 @@
  *   anaqsiro_held.
  * - anaqsiro_read CHANGES THE BLOCK, anaqsiro_write DOES NOT. The first reads a text into the block: the records that it had
  *   of that kind and key are gone. The second writes a text out of the block.
- * - A REFUSAL IS NOT ZERO: if (anaqsiro_may(..)) would take it for a yes. Test anaqsiro_value of what anaqsiro_may gives and
- *   anaqsiro_held of what anaqsiro_rights gives, which are 0 for every refusal. Test anaqsiro_number of what anaqsiro_read
- *   gives, whose value may be a place, and of what anaqsiro_day and anaqsiro_next_change give, where the 0 of a refusal would be
- *   taken for 1 January 1970, or for no change any more.
+ * - A REFUSAL IS NOT ZERO: if (anaqsiro_may(..)) would take it for a yes. Test anaqsiro_value of what anaqsiro_may,
+ *   anaqsiro_check_slip and anaqsiro_find_slip give and anaqsiro_held of what anaqsiro_rights gives, which are 0 for every refusal.
+ *   Test anaqsiro_number of what anaqsiro_read gives, whose value may be a place, and of what anaqsiro_day and anaqsiro_next_change
+ *   give, where the 0 of a refusal would be taken for 1 January 1970, or for no change any more.
  * - A QUESTION HAS A PROFILE SINCE 0.8, AS ITS LAST ARGUMENT. Compile every file again that calls anaqsiro_rights, anaqsiro_may or
  *   one of the two by a directory. One that was compiled with a header of 0.7 is linked without a word, and its questions are
  *   asked in whatever profile happens to stand there, or refused with 15. The other way, an archive of 0.7 ignores the profile, and
@@ -22,6 +22,8 @@
  * - IN THE ORDINARY PROFILE DENIALS DO NOT REACH ACROSS RECORDS. "No read" takes read out of the one permission record that it
  *   stands in; another one may still give it, to a group of the same user or on a group of the same object. Who wants a denial to
  *   win over every grant asks in the strict profile.
+ * - A SLIP IS OF THE BLOCK AS IT WAS, AND OF THE ORDINARY PROFILE. After a message, a read or a move, check it again before it is
+ *   shown. What it shows may be barred in the strict profile: who decides by that one asks anaqsiro_may there, and not for a slip.
  * - A BLOCK OF 0.4 OR BEFORE IS NOT ONE OF 0.5 OR AFTER. Its records have 20 bytes and these 24. It is refused with 2, unless it
  *   has no record. Take it over by the texts of its sets.
  * - A CHANGE WITHOUT THE DIRECTORY LEAVES IT BEHIND. Who keeps one changes the block by anaqsiro_message_by, anaqsiro_wide_by
@@ -49,13 +51,13 @@ extern "C" {
 #endif
 
 /* The version of this header and its archive. The formats of what a host keeps are part of it: as long as the first two numbers
- * are the same, a block, a message, a text or a list of appointments of one version is good for the other and means the same
- * there, and every call is made and answers as before. Where any of this changes, or a program over the Rust crate has to, the
- * second number rises; where something is only added that no host keeps, the third. In 0.8 the four questions take a profile, so a
- * host in C or C++ has to be changed in each of them and compiled again; what a host keeps is as in 0.7. */
-#define ANAQSIRO_VERSION "0.8.0"
+ * are the same, a block, a message, a text, a list of appointments or a slip of one version is good for the other and means the
+ * same there, and every call is made and answers as before. Where any of this changes, or a program over the Rust crate has to, the
+ * second number rises; where something is only added that no host keeps, the third. Slips are new in 0.9, and a host may keep them.
+ * No call of 0.8 has changed, and what a host kept before is as in 0.8. */
+#define ANAQSIRO_VERSION "0.9.0"
 #define ANAQSIRO_VERSION_MAJOR 0
-#define ANAQSIRO_VERSION_MINOR 8
+#define ANAQSIRO_VERSION_MINOR 9
 #define ANAQSIRO_VERSION_PATCH 0
 
 /* ---- numbers of the rules */
@@ -149,6 +151,11 @@ extern "C" {
 /* The bytes of that many. */
 #define ANAQSIRO_APPOINTMENTS_MAX (ANAQSIRO_APPOINTMENTS * ANAQSIRO_APPOINTMENT)
 
+/* A slip has two lists of names. Neither has more names than this: those on a chain of 32 membership records, the start among them. A
+ * list that is lent to anaqsiro_find_slip has at least so many places. The names are uint16_t, and the length of a list is how many
+ * of them there are, not how many bytes. */
+#define ANAQSIRO_CHAIN_MAX 33u
+
 /* What a record says. */
 enum anaqsiro_kind {
     ANAQSIRO_MEMBERSHIP = 1, /* the key is a member of the group id */
@@ -214,6 +221,7 @@ enum anaqsiro_number {
     ANAQSIRO_NO_ROOM = 8,
     ANAQSIRO_TEXT = 9,
     ANAQSIRO_TEXT_LONG = 10,
+    ANAQSIRO_CHAIN_LENGTH = 11,
     ANAQSIRO_OUTSIDE_RANGE = 12,
     ANAQSIRO_DIRECTORY_NOT_OWN = 13,
     ANAQSIRO_PROFILE = 15
@@ -354,6 +362,44 @@ uint64_t anaqsiro_next_change(const uint8_t *list, size_t list_len, uint64_t day
  * and 12 are as for anaqsiro_move. Numbers 0, 3, 4, 5, 12. Value: 1 for yes, 0 for no. */
 uint64_t anaqsiro_stands(const uint8_t *appointment, size_t appointment_len, uint64_t day);
 
+/* ---- the calls for slips
+ *
+ * A slip says why a user holds one right on an object. It is two lists of names: those on a chain from the user, and those on a chain
+ * from the object, or 0 by itself. They end at the permission record that grants the right. Read out, a slip is
+ *   planner-7, planners, maintenance | order-4711, line-2
+ * and rests on this:
+ *   the membership record of planner-7 in planners carries the right,
+ *   the membership record of planners in maintenance carries it,
+ *   the membership record of order-4711 in line-2 carries it,
+ *   the permission record of line-2 for maintenance grants it: it counts the capital letter, and not the small one,
+ *   every filter of order-4711, and of each group that its membership records name, lets it through,
+ *   order-4711 is open to planner-7, if she is bound.
+ * The last two are of the user, the object and the right, and no other name on the slip has a part in them.
+ *
+ * - A chain has 1 to ANAQSIRO_CHAIN_MAX names, and the first is the user or the object. It may repeat names.
+ * - 0 by itself stands for the group of all resources: what is granted on it counts for every object. It is no chain from the object.
+ *   So 0 with names after it is right only where the object is 0.
+ * - The right is one of ANAQSIRO_CREATE, ANAQSIRO_READ, ANAQSIRO_UPDATE and ANAQSIRO_DELETE. Any other mask is refused with 5.
+ * - A slip is right or not for a block as it stands. A message may end it, even where another slip says that the right is still held.
+ * - Any slip may be checked, wherever it comes from. One that was changed on its way is right only if it meets all of the above.
+ * - Slips belong to the ordinary profile, and neither call takes a directory. */
+
+/* Finds a slip, and writes its lists at the front of the two that are lent, which must not overlap. There is one exactly where
+ * anaqsiro_may says yes in the ordinary profile. Which one it is, where there are several, is left open; but no slip for this block,
+ * user, object and right has fewer names, both lists counted together. The places after each chain are left as they were, and both
+ * lists are where there is none. A lent list of fewer than ANAQSIRO_CHAIN_MAX places is refused with 10, also where there is none.
+ * Numbers 0, 1, 2, 4, 5, 10. Value: 0 for none, else the names on the user's chain + 2^8 * those on the object's;
+ * anaqsiro_user_names and anaqsiro_object_names take the answer apart. */
+uint64_t anaqsiro_find_slip(const uint8_t *block, size_t len, uint64_t user, uint64_t object, uint64_t right, uint16_t *user_chain,
+                            size_t user_len, uint16_t *object_chain, size_t object_len);
+
+/* Whether a slip is right. Its lists have just the names on it: those that anaqsiro_find_slip wrote, and no place after them. 4 is
+ * for all names on both lists too, however long these are. (A number from elsewhere that 16 bits do not hold is no name: write 65,535
+ * for it, which is refused, and do not cut it.) A list of no names, or of more than ANAQSIRO_CHAIN_MAX, is refused with 11.
+ * Numbers 0, 1, 2, 4, 5, 11. Value: 1 for yes, 0 for no. */
+uint64_t anaqsiro_check_slip(const uint8_t *block, size_t len, uint64_t user, uint64_t object, uint64_t right,
+                             const uint16_t *user_chain, size_t user_len, const uint16_t *object_chain, size_t object_len);
+
 /* ---- a block as it stands, record by record
  *
  * Only the first of these calls tests the block, so that a host can go through 2,048 records without 2,048 tests. Of a block
@@ -393,6 +439,12 @@ static inline uint32_t anaqsiro_user_examined(uint64_t answer) { return anaqsiro
 /* Those examined on the object's side. */
 static inline uint32_t anaqsiro_object_examined(uint64_t answer) { return anaqsiro_value(answer) >> 18; }
 
+/* The names on the user's chain, of an answer of anaqsiro_find_slip; 0 where there is no slip, or the call was refused. */
+static inline uint32_t anaqsiro_user_names(uint64_t answer) { return anaqsiro_value(answer) & 0xFFu; }
+
+/* Those on the object's chain. */
+static inline uint32_t anaqsiro_object_names(uint64_t answer) { return anaqsiro_value(answer) >> 8; }
+
 /* The day of the month of an answer of anaqsiro_date, 1 to 31; 0 where the call was refused, as for month and year. */
 static inline uint32_t anaqsiro_date_day(uint64_t answer) { return anaqsiro_value(answer) & 0x1Fu; }
 
@@ -420,13 +472,15 @@ static inline const char *anaqsiro_refusal_text(uint64_t number) {
                "appointments not of 12 bytes each, or a marker or last byte of one wrong";
     case ANAQSIRO_NAME: return "a name above 1023, given by the caller, in a present half or in an appointment";
     case ANAQSIRO_MASK:
-        return "request 0 or above 15; a present half's mask 0, or above 15 for M or F; an appointment's mask 0 or above 15";
+        return "request 0 or above 15; not exactly one right on a slip; "
+               "a present half's mask 0, or above 15 for M or F; an appointment's mask 0 or above 15";
     case ANAQSIRO_NOTHING_TO_TAKE:
         return "a letter or marker of the previous half, or of an appointment to take, has count 0 or no record";
     case ANAQSIRO_COUNT_FULL: return "after taking away, a letter or marker to add stands at 65,535";
     case ANAQSIRO_NO_ROOM: return "after taking away (or removing the old set), the records do not fit";
     case ANAQSIRO_TEXT: return "not the text of any set of that kind";
-    case ANAQSIRO_TEXT_LONG: return "text longer than the output buffer";
+    case ANAQSIRO_TEXT_LONG: return "text longer than the output buffer; a list lent for a slip has fewer than 33 places";
+    case ANAQSIRO_CHAIN_LENGTH: return "a checked chain has 0 or more than 33 names";
     case ANAQSIRO_OUTSIDE_RANGE:
         return "a 257th appointment, a date that is none, or a day, date, term or anniversary outside the range";
     case ANAQSIRO_DIRECTORY_NOT_OWN: return "the lent directory has the wrong length or is not the block's own";

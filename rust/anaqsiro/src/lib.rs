@@ -28,7 +28,7 @@
 //! # Ok::<(), anaqsiro::Refusal>(())
 //! ```
 //!
-//! - [`Block`]: messages, the two questions, sets as text, the records, and saving it with a checksum.
+//! - [`Block`]: messages, the two questions, slips, sets as text, the records, and saving it with a checksum.
 //! - [`WideMessage`]: a message about several objects and subjects at a time.
 //! - [`DirectedBlock`]: a block with its directory, where many questions are asked of a large one.
 //! - [`Ledger`]: a block with its statements. Use it where messages may arrive out of order, twice or late, or where nobody
@@ -40,6 +40,7 @@
 //! - [`Marker`]: how firms that share one installation are kept apart.
 //! - [`Profile`]: how far a denial reaches. Every question says in which it is asked.
 //! - [`Held`]: what the full question answers: the rights, and how many memberships were examined on each side.
+//! - [`Slip`]: why a user holds a right on an object, which can be found and checked.
 //!
 //! The answers of the block are those of the archive, which is proved; this crate around it is tested.
 
@@ -59,6 +60,7 @@ mod refusal;
 mod roster;
 mod saved;
 mod sent;
+mod slip;
 mod wide;
 
 pub use appointment::Appointment;
@@ -76,4 +78,5 @@ pub use refusal::Refusal;
 pub use roster::Roster;
 pub use saved::NotLoaded;
 pub use sent::Sent;
+pub use slip::Slip;
 pub use wide::{NotWide, WideHalf, WideMessage};

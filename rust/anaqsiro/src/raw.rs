@@ -1,7 +1,7 @@
 //! The C interface, as `include/anaqsiro.h` declares it. Each call returns the refusal's number times 2^32 plus a value. The
 //! value of `anaqsiro_rights` and `anaqsiro_rights_by` is not the rights alone: [`Held::from_answer`](crate::Held::from_answer)
-//! takes it apart. A length is a number of elements, and those of a directory are 16 bits wide. A profile is the number of a
-//! [`Profile`](crate::Profile), and any other is refused with 15.
+//! takes it apart. A length is a number of elements, and those of a directory or a chain are 16 bits wide. A profile is the
+//! number of a [`Profile`](crate::Profile), and any other is refused with 15.
 
 #[link(name = "anaqsiro", kind = "static")]
 extern "C" {
@@ -10,6 +10,28 @@ extern "C" {
     pub fn anaqsiro_wide(block: *mut u8, len: usize, message: *const u8, message_len: usize) -> u64;
     pub fn anaqsiro_rights(block: *const u8, len: usize, user: u64, object: u64, request: u64, profile: u64) -> u64;
     pub fn anaqsiro_may(block: *const u8, len: usize, user: u64, object: u64, request: u64, profile: u64) -> u64;
+    pub fn anaqsiro_find_slip(
+        block: *const u8,
+        len: usize,
+        user: u64,
+        object: u64,
+        right: u64,
+        user_chain: *mut u16,
+        user_len: usize,
+        object_chain: *mut u16,
+        object_len: usize,
+    ) -> u64;
+    pub fn anaqsiro_check_slip(
+        block: *const u8,
+        len: usize,
+        user: u64,
+        object: u64,
+        right: u64,
+        user_chain: *const u16,
+        user_len: usize,
+        object_chain: *const u16,
+        object_len: usize,
+    ) -> u64;
     pub fn anaqsiro_write(block: *const u8, len: usize, kind: u64, key: u64, out: *mut u8, out_len: usize) -> u64;
     pub fn anaqsiro_read(block: *mut u8, len: usize, kind: u64, key: u64, text: *const u8, text_len: usize) -> u64;
     pub fn anaqsiro_directory(block: *const u8, len: usize, directory: *mut u16, directory_len: usize) -> u64;

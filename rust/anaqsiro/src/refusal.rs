@@ -17,7 +17,7 @@ pub enum Refusal {
     Form,
     /// 4: a name that is not below [`NAMES`](crate::NAMES).
     Name,
-    /// 5: no right requested; a half's mask empty, with or without a marker, or with a denial where a membership, a filter or an
+    /// 5: no right requested; for a [`Slip`](crate::Slip) none or more than one; a half's mask empty, with or without a marker, or with a denial where a membership, a filter or an
     /// appointment is spoken of.
     Mask,
     /// 6: a letter or the marker of the previous half, or of an appointment to take, has count 0 or no record.
@@ -33,8 +33,11 @@ pub enum Refusal {
         /// ASCII, so that a `str` can be cut there.
         place: usize,
     },
-    /// 10: text longer than the output buffer.
+    /// 10: text longer than the output buffer; a list lent for a slip has fewer than [`Slip::LONGEST`](crate::Slip::LONGEST) places,
+    /// which only the [C interface](crate::raw) can be given.
     TextLong,
+    /// 11: a list of a checked [`Slip`](crate::Slip) has no names, or more than [`Slip::LONGEST`](crate::Slip::LONGEST).
+    ChainLength,
     /// 12: a 257th appointment, a date that is none, or a day, date, term or anniversary outside the range, which is from
     /// [`Date::FIRST`](crate::Date::FIRST) to [`Date::LAST`](crate::Date::LAST), and for a term from 1 to
     /// [`Appointment::LONGEST`](crate::Appointment::LONGEST) months.
@@ -65,6 +68,7 @@ impl Refusal {
             8 => Refusal::NoRoom,
             9 => Refusal::Text { place: value as usize },
             10 => Refusal::TextLong,
+            11 => Refusal::ChainLength,
             12 => Refusal::OutsideRange,
             13 => Refusal::DirectoryNotOwn,
             15 => Refusal::Profile,
@@ -85,6 +89,7 @@ impl Refusal {
             Refusal::NoRoom => 8,
             Refusal::Text { .. } => 9,
             Refusal::TextLong => 10,
+            Refusal::ChainLength => 11,
             Refusal::OutsideRange => 12,
             Refusal::DirectoryNotOwn => 13,
             Refusal::Profile => 15,
@@ -106,7 +111,8 @@ impl fmt::Display for Refusal {
             }
             Refusal::Name => "a name above 1023, given by the caller, in a present half or in an appointment",
             Refusal::Mask => {
-                "request 0 or above 15; a present half's mask 0, or above 15 for M or F; an appointment's mask 0 or above 15"
+                "request 0 or above 15; not exactly one right on a slip; \
+                 a present half's mask 0, or above 15 for M or F; an appointment's mask 0 or above 15"
             }
             Refusal::NothingToTake => {
                 "a letter or marker of the previous half, or of an appointment to take, has count 0 or no record"
@@ -114,7 +120,8 @@ impl fmt::Display for Refusal {
             Refusal::CountFull => "after taking away, a letter or marker to add stands at 65,535",
             Refusal::NoRoom => "after taking away (or removing the old set), the records do not fit",
             Refusal::Text { .. } => "not the text of any set of that kind",
-            Refusal::TextLong => "text longer than the output buffer",
+            Refusal::TextLong => "text longer than the output buffer; a list lent for a slip has fewer than 33 places",
+            Refusal::ChainLength => "a checked chain has 0 or more than 33 names",
             Refusal::OutsideRange => {
                 "a 257th appointment, a date that is none, or a day, date, term or anniversary outside the range"
             }
@@ -167,10 +174,10 @@ mod tests {
         let place = Block::LONGEST_TEXT - 1;
         assert_eq!(answer(9 << 32 | place as u64), Err(Refusal::Text { place }));
         assert_eq!(answer(10 << 32), Err(Refusal::TextLong));
-        assert_eq!(answer(11 << 32 | 5), Err(Refusal::Unknown(11)));
+        assert_eq!(answer(11 << 32), Err(Refusal::ChainLength));
         assert_eq!(answer(12 << 32), Err(Refusal::OutsideRange));
         assert_eq!(answer(13 << 32), Err(Refusal::DirectoryNotOwn));
-        assert_eq!(answer(14 << 32), Err(Refusal::Unknown(14)));
+        assert_eq!(answer(14 << 32 | 5), Err(Refusal::Unknown(14)));
         assert_eq!(answer(15 << 32), Err(Refusal::Profile));
         assert_eq!(answer(u64::MAX), Err(Refusal::Unknown(u32::MAX)));
     }

@@ -3,16 +3,16 @@
 //! and the second is timed beside it. Their records may have different lengths: each program's blocks are made by its own calls, as
 //! long as its own records want them, and the test of a block is told by the byte too. The calls by a directory have tables of
 //! their own, in which each stands beside the call without it, and so have blocks with markers, for programs that know them, questions
-//! in the strict profile, each beside the same one in the ordinary profile, for programs that have profiles, wide messages, each
-//! beside its pairs as plain messages, for programs that take them, and moves of appointments, each beside its changes as plain
-//! messages, for programs that have them. All other questions are asked in the ordinary profile, which is the only one of an archive
-//! without profiles.
+//! in the strict profile, each beside the same one in the ordinary profile, for programs that have profiles, slips, each beside the
+//! full question, for programs that find and check them, wide messages, each beside its pairs as plain messages, for programs that
+//! take them, and moves of appointments, each beside its changes as plain messages, for programs that have them. All other questions
+//! are asked in the ordinary profile, which is the only one of an archive without profiles.
 //!
 //! Each figure is the median over several rounds of some milliseconds of the processor's time; in a round each program does the
 //! same calls, in turn, on a block that its own calls have made. Buffers are warm: each call works on what the call before left.
 
 use compare::Archive;
-use plain::{half_at, Plain, ALL, CHAIN, ENTRIES, HEADER, MARKED, MASK, MESSAGE, NAMES, NEW, OLD, RECORD, ROOM};
+use plain::{half_at, Plain, ALL, CHAIN, ENTRIES, HEADER, MARKED, MASK, MESSAGE, NAMES, NEW, OLD, RECORD, ROOM, SLIP};
 use second::drive::{packed, Library, TEXT};
 use second::gen::Rng;
 use second::{Counts, Index, Part, M, ORDINARY, RIGHTS, STRICT};
@@ -25,6 +25,7 @@ use std::ops::Range;
 
 mod appointments;
 mod firms;
+mod slips;
 mod strict;
 mod wide;
 
@@ -59,21 +60,25 @@ const MILL: Size = Size(1258, 200, 40, 20);
 const FULL: Size = Size(1500, 500, 45, 3);
 
 /// A program that is timed, with its block, the block's directory if the calls go by it, the profile in which it is asked, a buffer
-/// for texts, and whether it is to send the pairs of a wide message, or the changes of a move, one by one as plain messages.
+/// for texts and lists for chains, whether it is to send the pairs of a wide message, or the changes of a move, one by one as plain
+/// messages, and whether it is asked the full question where others are asked about a slip.
 struct Runner<'a> {
     library: &'a dyn Library,
     block: Vec<u8>,
     directory: Option<Vec<u16>>,
     profile: u64,
     out: Vec<u8>,
+    lists: [Vec<u16>; 2],
     one_by_one: bool,
+    full: bool,
 }
 
 /// The calls, by the directory if there is one.
 impl<'a> Runner<'a> {
     /// A program whose calls go without a directory.
     fn without(library: &'a dyn Library, block: Vec<u8>) -> Runner<'a> {
-        Runner { library, block, directory: None, profile: ORDINARY, out: vec![0; TEXT], one_by_one: false }
+        let (out, lists) = (vec![0; TEXT], [(); 2].map(|()| vec![0; SLIP]));
+        Runner { library, block, directory: None, profile: ORDINARY, out, lists, one_by_one: false, full: false }
     }
 
     /// A program whose calls go by the directory, which it makes.
@@ -304,11 +309,12 @@ fn ratio(rounds: &[Vec<f64>], one: usize, other: usize) -> f64 {
 /// The programs that are timed: the library first, then the plain program, then the archive from before, if there is one.
 struct Programs {
     all: Vec<Box<dyn Library>>,
-    /// How many of them, the first ones, have the calls by a directory, how many know markers, how many have profiles, how many take
-    /// wide messages, and how many have the calls of appointments.
+    /// How many of them, the first ones, have the calls by a directory, how many know markers, how many have profiles, how many find
+    /// and check slips, how many take wide messages, and how many have the calls of appointments.
     directed: usize,
     marked: usize,
     profiled: usize,
+    slipped: usize,
     wide: usize,
     appointed: usize,
     /// How many of them are timed.
@@ -328,17 +334,18 @@ impl Programs {
         let named = |name: &str| var(name).ok().map(|path| Archive::loaded(&path)).transpose();
         let library = named("ANAQSIRO_NOW")?.unwrap_or_else(Archive::linked);
         let mut all: Vec<Box<dyn Library>> = vec![Box::new(library), Box::new(Plain)];
-        let [mut directed, mut wide, mut appointed] = [all.len(); 3];
+        let [mut directed, mut slipped, mut wide, mut appointed] = [all.len(); 4];
         if let Some(before) = named("ANAQSIRO_BEFORE")? {
             all.push(Box::new(before));
             let known = |name| usize::from(var("ANAQSIRO_BEFORE").is_ok_and(|path| has(&path, name)));
             directed += known("anaqsiro_directory");
+            slipped += known("anaqsiro_find_slip");
             wide += known("anaqsiro_wide");
             appointed += known("anaqsiro_move");
         }
         let marked = all.iter().take_while(|library| record_of(library.as_ref()) == RECORD).count();
         let profiled = all.iter().take_while(|library| has_profiles(library.as_ref())).count();
-        Ok(Programs { timed: all.len(), all, directed, marked, profiled, wide, appointed, by: false })
+        Ok(Programs { timed: all.len(), all, directed, marked, profiled, slipped, wide, appointed, by: false })
     }
 
     /// Each program with a block of its own, made by the function given. Where the calls go by a directory, the library without
@@ -750,6 +757,7 @@ fn main() -> Result<(), String> {
     lookups();
     firms::tables(&mut programs);
     strict::tables(&mut programs);
+    slips::tables(&mut programs);
     wide::tables(&mut programs);
     appointments::tables(&mut programs);
     programs.by = true;

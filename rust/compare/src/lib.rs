@@ -75,6 +75,10 @@ functions! {
     wide = anaqsiro_wide: unsafe extern "C" fn(*mut u8, usize, *const u8, usize) -> u64,
     rights = anaqsiro_rights: unsafe extern "C" fn(*const u8, usize, u64, u64, u64, u64) -> u64,
     may = anaqsiro_may: unsafe extern "C" fn(*const u8, usize, u64, u64, u64, u64) -> u64,
+    find_slip = anaqsiro_find_slip:
+        unsafe extern "C" fn(*const u8, usize, u64, u64, u64, *mut u16, usize, *mut u16, usize) -> u64,
+    check_slip = anaqsiro_check_slip:
+        unsafe extern "C" fn(*const u8, usize, u64, u64, u64, *const u16, usize, *const u16, usize) -> u64,
     write = anaqsiro_write: unsafe extern "C" fn(*const u8, usize, u64, u64, *mut u8, usize) -> u64,
     read = anaqsiro_read: unsafe extern "C" fn(*mut u8, usize, u64, u64, *const u8, usize) -> u64,
     tested = anaqsiro_tested: unsafe extern "C" fn(*const u8, usize) -> u64,
@@ -115,6 +119,16 @@ impl Library for Archive {
 
     fn may(&self, block: &[u8], user: u64, object: u64, request: u64, profile: u64) -> u64 {
         unsafe { (self.may)(block.as_ptr(), block.len(), user, object, request, profile) }
+    }
+
+    fn find_slip(&self, block: &[u8], user: u64, object: u64, right: u64, hers: &mut [u16], its: &mut [u16]) -> u64 {
+        let [hers, its] = [hers, its].map(|list| (list.as_mut_ptr(), list.len()));
+        unsafe { (self.find_slip)(block.as_ptr(), block.len(), user, object, right, hers.0, hers.1, its.0, its.1) }
+    }
+
+    fn check_slip(&self, block: &[u8], user: u64, object: u64, right: u64, hers: &[u16], its: &[u16]) -> u64 {
+        let [hers, its] = [hers, its].map(|list| (list.as_ptr(), list.len()));
+        unsafe { (self.check_slip)(block.as_ptr(), block.len(), user, object, right, hers.0, hers.1, its.0, its.1) }
     }
 
     fn write(&self, block: &[u8], kind: u64, key: u64, out: &mut [u8]) -> u64 {

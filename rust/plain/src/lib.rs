@@ -9,11 +9,13 @@ mod appointments;
 mod bound;
 mod calendar;
 mod directory;
+mod slips;
 mod wide;
 
 pub use appointments::{move_to, next_change, stands, APPOINTMENT, MOST as APPOINTMENTS};
 pub use calendar::{date, day};
 pub use directory::{directory, may_by, message_by, read_by, rights_by, wide_by, write_by, ENTRIES};
+pub use slips::{check_slip, find_slip, LONGEST as SLIP};
 pub use wide::{wide, LIST};
 
 const LETTERS: [u8; 10] = *b"MRUPmrupXN";
@@ -407,9 +409,14 @@ impl Look for [Span; NAMES] {
     }
 
     fn filters<'a>(&self, filters: &'a [Record], name: usize) -> &'a [Record] {
-        let from = &filters[filters.partition_point(|record| word(record, 0) < name)..];
-        &from[..from.iter().take_while(|&record| word(record, 0) == name).count()]
+        keyed_filters(filters, name)
     }
+}
+
+/// The F records of a name, searched for.
+fn keyed_filters(filters: &[Record], name: usize) -> &[Record] {
+    let from = &filters[filters.partition_point(|record| word(record, 0) < name)..];
+    &from[..from.iter().take_while(|&record| word(record, 0) == name).count()]
 }
 
 /// Where the M records of each name stand; the two numbers are the same for a name that has none.
@@ -877,6 +884,14 @@ impl Library for Plain {
 
     fn may(&self, block: &[u8], user: u64, object: u64, request: u64, profile: u64) -> u64 {
         both(may(block, user, object, request, profile))
+    }
+
+    fn find_slip(&self, block: &[u8], user: u64, object: u64, right: u64, hers: &mut [u16], its: &mut [u16]) -> u64 {
+        both(find_slip(block, user, object, right, hers, its))
+    }
+
+    fn check_slip(&self, block: &[u8], user: u64, object: u64, right: u64, hers: &[u16], its: &[u16]) -> u64 {
+        both(check_slip(block, user, object, right, hers, its))
     }
 
     fn write(&self, block: &[u8], kind: u64, key: u64, out: &mut [u8]) -> u64 {

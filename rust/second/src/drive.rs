@@ -21,6 +21,7 @@ mod lists;
 mod markers;
 mod moves;
 mod profiles;
+mod slips;
 mod wide;
 
 use appointments::Appointed;
@@ -34,6 +35,8 @@ pub trait Library {
     fn wide(&self, block: &mut [u8], message: &[u8]) -> u64;
     fn rights(&self, block: &[u8], user: u64, object: u64, request: u64, profile: u64) -> u64;
     fn may(&self, block: &[u8], user: u64, object: u64, request: u64, profile: u64) -> u64;
+    fn find_slip(&self, block: &[u8], user: u64, object: u64, right: u64, hers: &mut [u16], its: &mut [u16]) -> u64;
+    fn check_slip(&self, block: &[u8], user: u64, object: u64, right: u64, hers: &[u16], its: &[u16]) -> u64;
     fn write(&self, block: &[u8], kind: u64, key: u64, out: &mut [u8]) -> u64;
     fn read(&self, block: &mut [u8], kind: u64, key: u64, text: &[u8]) -> u64;
     fn tested(&self, block: &[u8]) -> u64;
@@ -207,11 +210,12 @@ const TO_MEET: &[(&str, &str, &[i64])] = &[
     ("count", "number too great, that names a record by its last bits", &[16, 32]),
 ];
 
-/// The lines of `TO_MEET`, those of wide messages, those of the markers, those of the profiles, those of the calls by a directory,
-/// and those of appointments.
+/// The lines of `TO_MEET`, those of wide messages, those of the markers, those of the profiles, those of slips, those of the calls by
+/// a directory, and those of appointments.
 fn to_meet() -> impl Iterator<Item = (&'static str, &'static str, &'static [i64])> {
     let appointments = [days::TO_MEET, lists::TO_MEET, appointments::TO_MEET, moves::TO_MEET, history::TO_MEET].concat();
-    let more = [wide::TO_MEET, markers::TO_MEET, profiles::TO_MEET, by::TO_MEET, &appointments].concat().into_iter();
+    let questions = [markers::TO_MEET, profiles::TO_MEET, slips::TO_MEET].concat();
+    let more = [wide::TO_MEET, &questions, by::TO_MEET, &appointments].concat().into_iter();
     let more = more.flat_map(|(calls, what, all)| calls.iter().map(move |&call| (call, what, all)));
     TO_MEET.iter().copied().chain(more)
 }
@@ -920,12 +924,21 @@ fn one_case(lib: &dyn Library, rng: &mut Rng, tally: &mut Tally) -> Result<(), S
     case.one_with_a_fault(&CALLS)
 }
 
+/// The same, and every eighth time a block and calls of slips after it.
+fn one_and_slips(lib: &dyn Library, rng: &mut Rng, tally: &mut Tally) -> Result<(), String> {
+    one_case(lib, rng, tally)?;
+    if rng.one_in(8) {
+        slips::case(lib, rng, tally)?;
+    }
+    Ok(())
+}
+
 /// Runs the cases; the first disagreement, with what leads to it, ends the run.
 pub fn run(lib: &dyn Library, cases: u64, seed: u64) -> Result<Tally, String> {
     let mut tally = Tally::default();
     for case in 0..cases {
         let mut rng = Rng(seed.wrapping_mul(1 << 32).wrapping_add(case));
-        one_case(lib, &mut rng, &mut tally).map_err(|what| format!("seed {seed}, case {case}: {what}"))?;
+        one_and_slips(lib, &mut rng, &mut tally).map_err(|what| format!("seed {seed}, case {case}: {what}"))?;
     }
     Ok(tally)
 }

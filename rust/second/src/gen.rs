@@ -8,6 +8,7 @@ use std::collections::BTreeMap;
 pub mod appointments;
 mod denials;
 mod firms;
+pub mod slips;
 mod wide;
 
 use denials::denials;
@@ -171,7 +172,7 @@ fn name(rng: &mut Rng, pool: u64) -> u16 {
     }
 }
 
-/// Where a chain, a fan, a ring, a user of a firm or one who is denied something starts, and the name on the other side.
+/// Where a chain, many ways, a fan, a ring, a user of a firm or one who is denied something starts, and the name on the other side.
 const START: u16 = 100;
 const OTHER: u16 = 9;
 
@@ -425,10 +426,11 @@ pub fn record(rng: &mut Rng, index: &Index) -> u64 {
     }
 }
 
-/// The name, or one that a chain of some M records leads from to it.
-fn before(rng: &mut Rng, index: &Index, mut name: u16) -> u64 {
+/// The name, or one that a chain of some M records, which are such, leads from to it.
+fn before(rng: &mut Rng, index: &Index, mut name: u16, such: impl Fn(&Counts) -> bool) -> u64 {
     for _ in 0..rng.pick(&[0, 1, 1, 2, 3, CHAIN, CHAIN + 1]) {
-        let keys: Vec<u16> = index.parts[M].keys().filter(|record| record.1 == name).map(|record| record.0).collect();
+        let records = index.parts[M].iter().filter(|(record, counts)| record.1 == name && such(counts));
+        let keys: Vec<u16> = records.map(|(record, _)| record.0).collect();
         if keys.is_empty() {
             break;
         }
@@ -437,8 +439,8 @@ fn before(rng: &mut Rng, index: &Index, mut name: u16) -> u64 {
     name.into()
 }
 
-/// A user and an object: mostly such that a P record may grant something between them. Where a chain, a fan, a ring, a user of a
-/// firm or one who is denied something starts, every other question is asked from there.
+/// A user and an object: mostly such that a P record may grant something between them. Where a chain, many ways, a fan, a ring, a
+/// user of a firm or one who is denied something starts, every other question is asked from there.
 pub fn question(rng: &mut Rng, index: &Index) -> (u64, u64) {
     let grants = &index.parts[P];
     let starts = index.parts[M].keys().any(|record| record.0 == START) || grants.keys().any(|record| record.1 == START);
@@ -446,13 +448,26 @@ pub fn question(rng: &mut Rng, index: &Index) -> (u64, u64) {
         let [start, other] = [START, OTHER].map(u64::from);
         return rng.pick(&[(start, other), (start, other), (other, start)]);
     }
-    let any = |rng: &mut Rng| if rng.one_in(6) { rng.pick(&[OTHER, START]).into() } else { number(rng, NAMES.into()) };
     if grants.is_empty() || rng.one_in(4) {
         return (any(rng), any(rng));
     }
-    let &(object, user) = grants.keys().nth(rng.below(grants.len() as u64) as usize).expect("a record");
-    let object = if object == 0 { any(rng) } else { before(rng, index, object) };
-    (before(rng, index, user), object)
+    let &grant = grants.keys().nth(rng.below(grants.len() as u64) as usize).expect("a record");
+    granted(rng, index, grant, |_| true)
+}
+
+/// A name from the caller, now and then one where something may start.
+fn any(rng: &mut Rng) -> u64 {
+    if rng.one_in(6) {
+        rng.pick(&[OTHER, START]).into()
+    } else {
+        number(rng, NAMES.into())
+    }
+}
+
+/// A user and an object from which chains of M records that are such may lead to a P record, by key and id.
+fn granted(rng: &mut Rng, index: &Index, (key, id): (u16, u16), such: impl Fn(&Counts) -> bool) -> (u64, u64) {
+    let object = if key == 0 { any(rng) } else { before(rng, index, key, &such) };
+    (before(rng, index, id, such), object)
 }
 
 /// Numbers that are no profile, many of them one by their last bits.

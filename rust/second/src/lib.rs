@@ -16,6 +16,7 @@ mod examined;
 pub mod gen;
 mod growth;
 mod sides;
+mod slips;
 mod wide;
 
 pub use appointments::{move_to, next_change, stands, Appointment};
@@ -24,6 +25,7 @@ use bound::{member, RULE};
 pub use calendar::{date, day};
 pub use directory::{directory, may_by, message_by, read_by, rights_by, wide_by, write_by, ENTRIES, PART_ENTRIES};
 use examined::examined;
+pub use slips::{check_slip, find_slip, Slip};
 pub use wide::{wide, Lists, Wide, LIST, WIDE};
 
 /// The letters that a record counts, in their order: the rights, the denial of each, then the markers.
@@ -637,6 +639,8 @@ mod appointed;
 mod marked;
 #[cfg(test)]
 mod places;
+#[cfg(test)]
+mod slipped;
 #[cfg(test)]
 mod strictly;
 #[cfg(test)]

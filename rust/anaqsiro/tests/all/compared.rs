@@ -1,13 +1,14 @@
 //! The safe calls, held against the second program as the archive is.
 
 use anaqsiro::{raw, Appointment, Appointments, Block, Date, DirectedBlock, Held, Kind, Profile, Record, Refusal};
-use anaqsiro::{Rights, Roster};
+use anaqsiro::{Rights, Roster, Slip};
 use second::drive::{self, run, Library};
 use second::LETTERS;
 
 /// The safe calls where the comparison wants a library. What they have no words for goes to the archive itself: a kind that is
-/// none, a request that is not of rights, a profile that there is not, a record that there is not, the records of a block that is
-/// not good, a place for a directory that is too long or too short, and a move over a wrong list or with a day that is none.
+/// none, a request that is not of rights, a profile that there is not, a list for a slip that is too short, a record that there is not,
+/// the records of a block that is not good, a place for a directory that is too long or too short, and a move over a wrong list or with
+/// a day that is none.
 struct Safe;
 
 /// An answer put together again.
@@ -22,6 +23,16 @@ fn packed(answer: Result<usize, Refusal>) -> u64 {
 /// The value of a full answer put together again.
 fn value_of(held: Held) -> usize {
     usize::from(held.rights.mask()) + 16 * held.user_examined as usize + 262_144 * held.object_examined as usize
+}
+
+/// The names of a slip put at the front of two lists, and the value of the answer that has it.
+fn laid_out(slip: &Slip, hers: &mut [u16], its: &mut [u16]) -> usize {
+    for (list, chain) in [(hers, &slip.user_chain), (its, &slip.object_chain)] {
+        for (place, &name) in list.iter_mut().zip(chain) {
+            *place = name as u16;
+        }
+    }
+    slip.user_chain.len() + 256 * slip.object_chain.len()
 }
 
 /// What a call on a block of these bytes gives; the bytes are then the block's.
@@ -99,6 +110,31 @@ impl Library for Safe {
         match (Rights::from_mask(request), Profile::from_number(profile)) {
             (Some(request), Some(profile)) => packed(safe.may(user, object, request, profile).map(usize::from)),
             _ => unsafe { raw::anaqsiro_may(block.as_ptr(), block.len(), user, object, request, profile) },
+        }
+    }
+
+    fn find_slip(&self, block: &[u8], user: u64, object: u64, right: u64, hers: &mut [u16], its: &mut [u16]) -> u64 {
+        let safe = Block::from_bytes(block.to_vec());
+        match Rights::from_mask(right).filter(|_| hers.len().min(its.len()) >= Slip::LONGEST) {
+            Some(right) => {
+                packed(safe.find_slip(user, object, right).map(|slip| slip.map_or(0, |slip| laid_out(&slip, hers, its))))
+            }
+            None => unsafe {
+                let [hers, its] = [hers, its].map(|list| (list.as_mut_ptr(), list.len()));
+                raw::anaqsiro_find_slip(block.as_ptr(), block.len(), user, object, right, hers.0, hers.1, its.0, its.1)
+            },
+        }
+    }
+
+    fn check_slip(&self, block: &[u8], user: u64, object: u64, right: u64, hers: &[u16], its: &[u16]) -> u64 {
+        let safe = Block::from_bytes(block.to_vec());
+        let [user_chain, object_chain] = [hers, its].map(|list| list.iter().copied().map(u64::from).collect());
+        match Rights::from_mask(right) {
+            Some(right) => packed(safe.check_slip(user, object, right, &Slip { user_chain, object_chain }).map(usize::from)),
+            None => unsafe {
+                let [hers, its] = [hers, its].map(|list| (list.as_ptr(), list.len()));
+                raw::anaqsiro_check_slip(block.as_ptr(), block.len(), user, object, right, hers.0, hers.1, its.0, its.1)
+            },
         }
     }
 

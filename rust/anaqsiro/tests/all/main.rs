@@ -13,5 +13,6 @@ mod messages;
 mod profiles;
 mod rosters;
 mod saved;
+mod slips;
 mod streams;
 mod wide;

@@ -1,6 +1,6 @@
 //! Kinds, halves, messages and refusals.
 
-use anaqsiro::{Appointment, Appointments, Block, Half, Kind, Letters, Marker, Message, Profile, Refusal, Rights, NAMES};
+use anaqsiro::{Appointment, Appointments, Block, Half, Kind, Letters, Marker, Message, Profile, Refusal, Rights, Slip, NAMES};
 use second::drive::packed;
 
 /// The refusal of a number and a value.
@@ -10,14 +10,14 @@ fn refusal(number: u32, value: u32) -> Option<Refusal> {
 
 #[test]
 fn every_refusal_has_its_number() {
-    for number in (1..=10).chain([12, 13, 15]) {
+    for number in (1..=13).chain([15]) {
         let named = refusal(number, 0).expect("a refusal");
         assert_eq!(named.number(), number);
         assert!(!matches!(named, Refusal::Unknown(_)));
         assert_eq!(refusal(number, 3) == Some(named), number != 9, "of a text alone the value is told");
     }
     assert_eq!([refusal(0, 0), refusal(0, 9)], [None, None]);
-    for number in [11, 14, 16, u32::MAX] {
+    for number in [14, 16, u32::MAX] {
         assert_eq!(refusal(number, 7), Some(Refusal::Unknown(number)));
         assert_eq!(Refusal::Unknown(number).number(), number);
     }
@@ -44,6 +44,8 @@ fn the_words_have_the_numbers_of_the_crate() {
         (Refusal::Name, format!("above {},", NAMES - 1)),
         (Refusal::Mask, format!("above {};", Rights::ALL.mask())),
         (Refusal::CountFull, format!("at {}", with_comma(u16::MAX.into()))),
+        (Refusal::TextLong, format!("fewer than {} places", Slip::LONGEST)),
+        (Refusal::ChainLength, format!("more than {} names", Slip::LONGEST)),
         (Refusal::OutsideRange, format!("a {}th appointment,", Appointments::MOST + 1)),
     ] {
         assert!(refusal.to_string().contains(&words), "{refusal}, and not {words}");

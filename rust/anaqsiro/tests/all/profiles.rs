@@ -11,10 +11,10 @@ const P: Kind = Kind::Permission;
 const F: Kind = Kind::Filter;
 
 /// How many records a chain may have.
-const CHAIN: u64 = 32;
+pub const CHAIN: u64 = 32;
 
 /// A block of these sets.
-fn block_of<T: AsRef<[u8]>>(sets: impl IntoIterator<Item = (Kind, Name, T)>) -> Block {
+pub fn block_of<T: AsRef<[u8]>>(sets: impl IntoIterator<Item = (Kind, Name, T)>) -> Block {
     let mut block = with_room(200);
     for (kind, key, text) in sets {
         block.read_set(kind, key, text).expect("room");
@@ -189,7 +189,7 @@ fn barred(block: &Block, user: Name, object: Name) -> Rights {
 }
 
 /// A block of few names at random, so that many records are reached.
-fn any_block(rng: &mut Rng) -> Block {
+pub fn any_block(rng: &mut Rng) -> Block {
     let mut block = with_room(40);
     for _ in 0..10 + rng.below(20) {
         let (kind, most) = rng.pick(&[(M, ALL), (M, ALL), (P, 255), (P, 255), (F, ALL)]);
