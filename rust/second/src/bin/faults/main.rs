@@ -10,12 +10,13 @@ mod appointments;
 mod days;
 mod markers;
 mod profiles;
+mod slips;
 mod wide;
 
 /// What the fault is, the text in plain/src, and what is put in its place.
 type Fault = (&'static str, &'static str, &'static str);
 
-/// The faults but for those of markers, of profiles, of wide messages, of days and of appointments.
+/// The faults but for those of markers, of profiles, of slips, of wide messages, of days and of appointments.
 const FAULTS: &[Fault] = &[
     ("a block that is a byte too short is one that is not good", "if b.len() < HEADER || b.len() > GREATEST {\n        return Err(1);\n    }\n    let at", "if b.len() + 1 == HEADER {\n        return Err(2);\n    }\n    if b.len() < HEADER || b.len() > GREATEST {\n        return Err(1);\n    }\n    let at"),
     ("a block that is a byte too long is taken", "b.len() > GREATEST {\n        return 1;\n    }\n    b.fill(0);", "b.len() > GREATEST + 1 {\n        return 1;\n    }\n    b.fill(0);"),
@@ -267,7 +268,7 @@ fn main() -> std::io::Result<()> {
         .map(|entry| entry.map(|entry| entry.path()).and_then(|path| Ok((path.clone(), fs::read_to_string(path)?))))
         .collect::<std::io::Result<_>>()?;
     let words = std::env::args().nth(1).unwrap_or_default();
-    let all = [FAULTS, markers::FAULTS, profiles::FAULTS, wide::FAULTS, days::FAULTS, appointments::FAULTS];
+    let all = [FAULTS, markers::FAULTS, profiles::FAULTS, slips::FAULTS, wide::FAULTS, days::FAULTS, appointments::FAULTS];
     let faults: Vec<&Fault> = all.into_iter().flatten().filter(|fault| fault.0.contains(&words)).collect();
     let places: Vec<&Source> = faults.iter().map(|(what, old, _)| place(&sources, what, old)).collect();
     assert!(matches!(compared(&folder)?, End::Agreed), "the program without a fault disagrees");
