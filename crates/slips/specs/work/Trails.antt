@@ -75,7 +75,7 @@ pub record Trails (b : List ℕ) (k start n lo hi p i : ℕ) (steps before order
   pub at-next : (q : ℕ) → hi ≤ q → q < len → at steps (getD order q 0) ≡ n + 1
   pub inside : (p ≤ hi) × (hi ≤ len)
 
--- Where the M records of each name begin: at the first of them. A name that has none has any number past the last M record.
+-- Where the M records of each name begin: at the first of them. Of a name that has none nothing is said.
 pub record Begin (b firsts : List ℕ) (i j : ℕ) : Type 0 where
   pub low : i ≤ getD firsts (key b j) 0
   pub high : getD firsts (key b j) 0 ≤ j
