@@ -1,6 +1,6 @@
 /* Tests what the header gives beside the calls of the rules, as C99 and as C++11: the inline functions, messages and wide messages, the
  * longest text, the places of wrong texts, the parts of a full question's answer, both profiles, the calls that go through a block
- * record by record, a directory, dates, and appointments and slips with each number of each call for them. */
+ * record by record, a directory, dates, and appointments, slips and limits with each number of each call for them. */
 #include "anaqsiro.h"
 
 #include <stdio.h>
@@ -57,6 +57,10 @@ static void test_lengths(void) {
     same("the first day", anaqsiro_day(ANAQSIRO_FIRST_YEAR, 1, 1), 0);
     same("the last day", anaqsiro_day(ANAQSIRO_LAST_YEAR, 12, 31), ANAQSIRO_LAST_DAY);
     same("the longest chain", ANAQSIRO_CHAIN_MAX, 33);
+    same("the greatest limit of the plain engine", ANAQSIRO_PLAIN_LIMIT_MAX, 8);
+    same("its memberships", ANAQSIRO_PLAIN_RECORDS_MAX, 64);
+    same("the greatest limit", ANAQSIRO_LIMIT_MAX, 32);
+    same("a limit's number", ANAQSIRO_LIMIT, 14);
 }
 
 /* Each mask as letters and back, and words that are not in order, empty, or of other bytes. */
@@ -87,9 +91,8 @@ static void test_refusals(void) {
     same_words("0", anaqsiro_refusal_text(0), "accepted");
     same_words("1", anaqsiro_refusal_text(1), lengths);
     for (uint64_t number = 0; number <= ANAQSIRO_PROFILE; number++) {
-        const int known = number != 14;
-        same("known", strcmp(anaqsiro_refusal_text(number), "unknown") != 0, known);
-        for (uint64_t before = 0; known && before < number; before++) {
+        same("known", strcmp(anaqsiro_refusal_text(number), "unknown") != 0, 1);
+        for (uint64_t before = 0; before < number; before++) {
             same("own words", strcmp(anaqsiro_refusal_text(number), anaqsiro_refusal_text(before)) == 0, 0);
         }
     }
@@ -99,6 +102,8 @@ static void test_refusals(void) {
     same_words("12", anaqsiro_refusal_text(12),
                "a 257th appointment, a date that is none, or a day, date, term or anniversary outside the range");
     same_words("13", anaqsiro_refusal_text(13), "the lent directory has the wrong length or is not the block's own");
+    same_words("14", anaqsiro_refusal_text(14),
+               "a limit above 8 or more than 64 membership records for the plain engine; a limit above 32");
     same_words("15", anaqsiro_refusal_text(15), "a profile other than ordinary or strict");
     same_words("16", anaqsiro_refusal_text(ANAQSIRO_PROFILE + 1), "unknown");
     same_words("2^32", anaqsiro_refusal_text((uint64_t)1 << 32), "unknown");
@@ -1277,6 +1282,209 @@ static void test_0_by_itself(void) {
     same("where the object is not open to her", check(&one, &slip), 0);
 }
 
+/* Sets whose rights differ by the limit. KEY is in group 8, which is in 30. 5 is bound to 6 by one membership, 11 to 13 by two, and 14
+ * would be bound to 16 by two if the first had no N. 17, 19 and 43 have a membership with a marker alone. 21 and 22 are in each other.
+ * 99 is in START. On 10 rights are granted to START and to the names 3, 8, 32 and 33 memberships after it, and to 1 on each of these. */
+static const struct keyed limited[] = {
+    {ANAQSIRO_MEMBERSHIP, 5, "6;MRUPX"},
+    {ANAQSIRO_MEMBERSHIP, 6, "40;MRUP"},
+    {ANAQSIRO_MEMBERSHIP, KEY, "8;MRUP"},
+    {ANAQSIRO_MEMBERSHIP, 8, "30;MRUP"},
+    {ANAQSIRO_MEMBERSHIP, 11, "12;R"},
+    {ANAQSIRO_MEMBERSHIP, 12, "13;UX"},
+    {ANAQSIRO_MEMBERSHIP, 14, "15;RN"},
+    {ANAQSIRO_MEMBERSHIP, 15, "16;RX"},
+    {ANAQSIRO_MEMBERSHIP, 17, "18;X"},
+    {ANAQSIRO_MEMBERSHIP, 19, "8;X"},
+    {ANAQSIRO_MEMBERSHIP, 21, "22;MR"},
+    {ANAQSIRO_MEMBERSHIP, 22, "21;RU"},
+    {ANAQSIRO_MEMBERSHIP, 41, "42;R"},
+    {ANAQSIRO_MEMBERSHIP, 42, "6;P"},
+    {ANAQSIRO_MEMBERSHIP, 43, "6;X;8;R"},
+    {ANAQSIRO_MEMBERSHIP, 99, "100;M"},
+    {ANAQSIRO_PERMISSION, 0, "5;U;11;RU;14;R;17;R;23;r"},
+    {ANAQSIRO_PERMISSION, KEY, "20;MRUP;100;R"},
+    {ANAQSIRO_PERMISSION, 8, "5;M"},
+    {ANAQSIRO_PERMISSION, 9, "21;R;22;MRU;23;RUu"},
+    {ANAQSIRO_PERMISSION, 10, "100;P;103;U;108;M;132;R;133;MRUP"},
+    {ANAQSIRO_PERMISSION, 99, "100;R"},
+    {ANAQSIRO_PERMISSION, 100, "1;P"},
+    {ANAQSIRO_PERMISSION, 103, "1;U"},
+    {ANAQSIRO_PERMISSION, 108, "1;M"},
+    {ANAQSIRO_PERMISSION, 132, "1;R"},
+    {ANAQSIRO_PERMISSION, 133, "1;MRUP"},
+    {ANAQSIRO_FILTER, 8, "50;MRU"},
+    {ANAQSIRO_FILTER, 30, "50;P"},
+};
+
+/* A block of them with a chain of memberships from START to END besides, one more than a chain may have, and X in the eighth of them.
+ * It has LIMITED memberships, and room for more than the plain engine takes. */
+enum { LIMITED = 17 + END - START, BINDING = START + 7, MORE = 200 };
+
+struct limited_block {
+    uint8_t block[ANAQSIRO_BLOCK_MIN + 128 * ANAQSIRO_RECORD];
+};
+
+/* Replaces the memberships of a name by those of a text. */
+static void put_groups(struct limited_block *one, uint64_t name, const char *text) {
+    const uint64_t answer =
+        anaqsiro_read(one->block, sizeof one->block, ANAQSIRO_MEMBERSHIP, name, (const uint8_t *)text, strlen(text));
+    same("groups", anaqsiro_number(answer), ANAQSIRO_ACCEPTED);
+}
+
+static void make_limited(struct limited_block *one) {
+    char text[16];
+    make_of(one->block, sizeof one->block, limited, sizeof limited / sizeof *limited);
+    for (unsigned name = START; name < END; name++) {
+        snprintf(text, sizeof text, "%u;MRUP%s", name + 1, name == BINDING ? "X" : "");
+        put_groups(one, name, text);
+    }
+    same("memberships", anaqsiro_size(one->block, sizeof one->block, ANAQSIRO_MEMBERSHIP), LIMITED);
+    same("permissions", anaqsiro_size(one->block, sizeof one->block, ANAQSIRO_PERMISSION), 22);
+    same("filters", anaqsiro_size(one->block, sizeof one->block, ANAQSIRO_FILTER), 2);
+}
+
+/* A user and an object, and the rights at each limit from 0 to 8, those at the limits from 9 to 31, and those at 32. */
+struct at_limits {
+    const char *what;
+    uint64_t user, object;
+    uint32_t held[ANAQSIRO_PLAIN_LIMIT_MAX + 1], after, at_last;
+};
+
+static const struct at_limits at_limits[] = {
+    {"her chain", START, 10, {8, 8, 8, 12, 12, 12, 12, 12, 13}, 13, 15},
+    {"the object's chain", 1, START, {8, 8, 8, 12, 12, 12, 12, 12, 13}, 13, 15},
+    {"filtered by its group", 20, KEY, {7, 7, 7, 7, 7, 7, 7, 7, 7}, 7, 7},
+    {"in no group at all", 5, 9, {4, 4, 4, 4, 4, 4, 4, 4, 4}, 4, 4},
+    {"in a group by a marker alone", 5, 19, {4, 4, 4, 4, 4, 4, 4, 4, 4}, 4, 4},
+    {"a group of hers", 5, 6, {4, 4, 4, 4, 4, 4, 4, 4, 4}, 4, 4},
+    {"bound by one", 5, KEY, {4, 0, 0, 0, 0, 0, 0, 0, 0}, 0, 0},
+    {"bound by one, open by two", 5, 41, {4, 0, 4, 4, 4, 4, 4, 4, 4}, 4, 4},
+    {"bound by one, in her group by a marker alone", 5, 43, {4, 0, 0, 0, 0, 0, 0, 0, 0}, 0, 0},
+    {"bound by two", 11, KEY, {6, 6, 0, 0, 0, 0, 0, 0, 0}, 0, 0},
+    {"bound by eight", START, KEY, {2, 2, 2, 2, 2, 2, 2, 2, 0}, 0, 0},
+    {"bound by eight, open by nine", START, 99, {2, 2, 2, 2, 2, 2, 2, 2, 0}, 2, 2},
+    {"over N", 14, KEY, {2, 2, 2, 2, 2, 2, 2, 2, 2}, 2, 2},
+    {"a marker alone", 17, KEY, {2, 2, 2, 2, 2, 2, 2, 2, 2}, 2, 2},
+    {"a loop", 21, 9, {2, 3, 3, 3, 3, 3, 3, 3, 3}, 3, 3},
+    {"the loop's other name", 22, 9, {7, 7, 7, 7, 7, 7, 7, 7, 7}, 7, 7},
+    {"the ordinary profile", 23, 9, {2, 2, 2, 2, 2, 2, 2, 2, 2}, 2, 2},
+    {"nothing granted", 30, KEY, {0, 0, 0, 0, 0, 0, 0, 0, 0}, 0, 0},
+};
+
+/* The rights of a row at a limit. */
+static uint32_t held_at(const struct at_limits *row, uint64_t limit) {
+    return limit <= ANAQSIRO_PLAIN_LIMIT_MAX ? row->held[limit] : limit < ANAQSIRO_LIMIT_MAX ? row->after : row->at_last;
+}
+
+/* The two calls with a limit, and the greatest limit of each. */
+struct engine {
+    const char *what;
+    uint64_t (*call)(const uint8_t *block, size_t len, uint64_t user, uint64_t object, uint64_t request, uint64_t limit);
+    uint64_t most;
+};
+
+static const struct engine engines[] = {{"the plain engine", anaqsiro_plain, ANAQSIRO_PLAIN_LIMIT_MAX},
+                                        {"the walk", anaqsiro_rights_to, ANAQSIRO_LIMIT_MAX}};
+
+enum { ENGINES = sizeof engines / sizeof *engines };
+
+/* What an engine gives for a row at each limit that it takes. */
+static void same_at_limits(const struct limited_block *one, const struct engine *engine, const struct at_limits *row,
+                           uint64_t request) {
+    for (uint64_t limit = 0; limit <= engine->most; limit++) {
+        const uint64_t answer = engine->call(one->block, sizeof one->block, row->user, row->object, request, limit);
+        same(row->what, answer, held_at(row, limit) & request);
+        same(row->what, anaqsiro_held(answer), held_at(row, limit) & request);
+    }
+}
+
+/* The rights at each limit, whatever is requested, and without a limit. No byte of the block changes. */
+static void test_limits(void) {
+    struct limited_block one;
+    make_limited(&one);
+    const struct limited_block before = one;
+    for (const struct at_limits *row = at_limits; row < at_limits + sizeof at_limits / sizeof *at_limits; row++) {
+        for (uint64_t request = 1; request <= ANAQSIRO_ALL; request++) {
+            same_at_limits(&one, &engines[0], row, request);
+            same_at_limits(&one, &engines[1], row, request);
+            const uint64_t full = anaqsiro_rights(one.block, sizeof one.block, row->user, row->object, request, ANAQSIRO_ORDINARY);
+            same("without a limit", anaqsiro_held(full), row->at_last & request);
+        }
+    }
+    same("the block as it was", memcmp(&one, &before, sizeof before) == 0, 1);
+}
+
+/* An engine refuses a question with the number, and no byte of the block changes. */
+static void limit_refused(const char *what, const struct engine *engine, const struct limited_block *one, size_t len, uint64_t user,
+                          uint64_t object, uint64_t request, uint64_t limit, uint32_t number) {
+    const struct limited_block before = *one;
+    same(what, engine->call(one->block, len, user, object, request, limit), (uint64_t)number << 32);
+    same(engine->what, memcmp(one, &before, sizeof before) == 0, 1);
+}
+
+/* The number at a limit. Then more goes wrong, and each time the number is that of what is looked at first. */
+static void each_number_at(const struct engine *engine, struct limited_block *one, uint64_t limit, int taken) {
+    static const uint64_t wrong_requests[] = {0, 16, 255, ((uint64_t)1 << 32) + 1, UINT64_MAX};
+    static const uint64_t wrong_names[] = {ANAQSIRO_NAMES, 65536 + KEY, ((uint64_t)1 << 32) + KEY, UINT64_MAX};
+    const size_t len = sizeof one->block;
+    if (taken) {
+        same("a limit", anaqsiro_number(engine->call(one->block, len, 20, KEY, ANAQSIRO_ALL, limit)), ANAQSIRO_ACCEPTED);
+    } else {
+        limit_refused("no limit", engine, one, len, 20, KEY, ANAQSIRO_ALL, limit, ANAQSIRO_LIMIT);
+    }
+    for (size_t i = 0; i < sizeof wrong_requests / sizeof *wrong_requests; i++) {
+        limit_refused("a request", engine, one, len, 20, KEY, wrong_requests[i], limit, ANAQSIRO_MASK);
+    }
+    for (size_t i = 0; i < sizeof wrong_names / sizeof *wrong_names; i++) {
+        limit_refused("a user", engine, one, len, wrong_names[i], KEY, ANAQSIRO_ALL, limit, ANAQSIRO_NAME);
+        limit_refused("an object", engine, one, len, 20, wrong_names[i], ANAQSIRO_ALL, limit, ANAQSIRO_NAME);
+        limit_refused("a user before a request", engine, one, len, wrong_names[i], KEY, 0, limit, ANAQSIRO_NAME);
+        limit_refused("an object before a request", engine, one, len, 20, wrong_names[i], 0, limit, ANAQSIRO_NAME);
+    }
+    limit_refused("cut off", engine, one, ANAQSIRO_BLOCK_MIN, ANAQSIRO_NAMES, KEY, 0, limit, ANAQSIRO_BLOCK_NOT_GOOD);
+    limit_refused("too short", engine, one, ANAQSIRO_BLOCK_MIN - 1, ANAQSIRO_NAMES, KEY, 0, limit, ANAQSIRO_BLOCK_LENGTH);
+    same("no bytes", engine->call(NULL, 0, 20, KEY, ANAQSIRO_ALL, limit), (uint64_t)ANAQSIRO_BLOCK_LENGTH << 32);
+    one->block[6] = 1; /* this number is to be zero */
+    limit_refused("not good", engine, one, len, 20, KEY, ANAQSIRO_ALL, limit, ANAQSIRO_BLOCK_NOT_GOOD);
+    one->block[6] = 0;
+}
+
+/* Each number of both calls, at each limit that matters: a number that 32 bits do not hold is never taken for another. */
+static void test_numbers_at_limits(void) {
+    static const uint64_t limits[] = {0, 1, 7, 8, 9, 31, 32, 33, 64, 256, 264, 65536 + 8, (uint64_t)1 << 32,
+                                      ((uint64_t)1 << 32) + 8, ((uint64_t)1 << 32) + 32, (uint64_t)1 << 63, UINT64_MAX};
+    struct limited_block one;
+    make_limited(&one);
+    for (size_t i = 0; i < ENGINES; i++) {
+        for (size_t at = 0; at < sizeof limits / sizeof *limits; at++) {
+            each_number_at(&engines[i], &one, limits[at], limits[at] <= engines[i].most);
+        }
+    }
+}
+
+/* The plain engine takes 64 memberships and no 65th, be it with a marker alone. The walk takes them all. */
+static void test_many_memberships(void) {
+    static const char *const last[] = {"8;R", "8;X", "8;N"};
+    struct limited_block one;
+    make_limited(&one);
+    for (unsigned name = MORE; name < MORE + ANAQSIRO_PLAIN_RECORDS_MAX - LIMITED; name++) {
+        put_groups(&one, name, "8;R");
+    }
+    same("64 memberships", anaqsiro_size(one.block, sizeof one.block, ANAQSIRO_MEMBERSHIP), ANAQSIRO_PLAIN_RECORDS_MAX);
+    for (size_t i = 0; i < sizeof last / sizeof *last; i++) {
+        for (uint64_t limit = 0; limit <= ANAQSIRO_PLAIN_LIMIT_MAX; limit++) {
+            same("of 64", anaqsiro_plain(one.block, sizeof one.block, 20, KEY, ANAQSIRO_ALL, limit), 7);
+        }
+        put_groups(&one, ANAQSIRO_NAMES - 1, last[i]);
+        for (uint64_t limit = 0; limit <= ANAQSIRO_LIMIT_MAX; limit++) {
+            each_number_at(&engines[0], &one, limit, 0);
+            same("of 65", anaqsiro_rights_to(one.block, sizeof one.block, 20, KEY, ANAQSIRO_ALL, limit), 7);
+        }
+        put_groups(&one, ANAQSIRO_NAMES - 1, "");
+    }
+}
+
 int main(void) {
     test_version();
     test_lengths();
@@ -1315,6 +1523,9 @@ int main(void) {
     test_forged_slips();
     test_long_lists();
     test_0_by_itself();
+    test_limits();
+    test_numbers_at_limits();
+    test_many_memberships();
     printf("include/anaqsiro.h as " LANGUAGE ": %u tests, %u failed\n", tests, failures);
     return failures > 0;
 }

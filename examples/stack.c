@@ -2,10 +2,11 @@
  * that lost its paint is looked for. The blocks are such that each call goes as deep as it can: a chain of 40 records for the
  * questions, with X in the one that a chain may end with and a denial at the end of both chains, a count of five digits for the
  * text, for the messages one that inserts and one that puts back what it took, with 64 pairs in a half of the wide ones, for the
- * moves lists of 256 appointments, for slips one with 33 names on either list. Questions are asked in both profiles. The calls by a
- * directory are made on the same blocks. It fails where a call takes more than LIMIT, the finder of slips more than FIND_LIMIT, or
- * where one gives another number than it is to: a call that is refused too early takes little, and so does a slip that is not found
- * or not right. */
+ * moves lists of 256 appointments, for slips one with 33 names on either list, at a limit a grant at the end of chains that are as long
+ * as the limit allows, and for the plain engine a loop. Questions are asked in both profiles. The calls by a directory are made on the
+ * same blocks. It fails where a call takes more than LIMIT, the finder of slips more than FIND_LIMIT, the plain engine more than
+ * PLAIN_LIMIT, or where one gives another number than it is to: a call that is refused too early takes little, and so does a slip that
+ * is not found or not right, or a right that is not reached. */
 #define _GNU_SOURCE
 #include "anaqsiro.h"
 
@@ -19,6 +20,7 @@
 #define PAIRS (ANAQSIRO_LIST_MAX * ANAQSIRO_LIST_MAX)
 #define LIMIT (24u * 1024u)
 #define FIND_LIMIT (32u * 1024u)
+#define PLAIN_LIMIT (64u * 1024u)
 #define JANUARY 19723u
 #define FEBRUARY 19754u
 
@@ -125,6 +127,12 @@ static uint64_t call_check_slip(void) {
     return anaqsiro_check_slip(block, sizeof block, 1, 1, ANAQSIRO_UPDATE, user_chain, ANAQSIRO_CHAIN_MAX, object_chain,
                                ANAQSIRO_CHAIN_MAX);
 }
+static uint64_t call_plain(void) {
+    return anaqsiro_plain(block, sizeof block, 1, 1, ANAQSIRO_ALL, ANAQSIRO_PLAIN_LIMIT_MAX);
+}
+static uint64_t call_rights_to(void) {
+    return anaqsiro_rights_to(block, sizeof block, 1, 1, ANAQSIRO_ALL, ANAQSIRO_LIMIT_MAX);
+}
 static uint64_t call_day(void) { return anaqsiro_day(ANAQSIRO_LAST_YEAR, 12, 31); }
 static uint64_t call_date(void) { return anaqsiro_date(ANAQSIRO_LAST_DAY); }
 static uint64_t call_tested(void) { return anaqsiro_tested(block, sizeof block); }
@@ -150,7 +158,9 @@ struct named {
 };
 
 /* The most that a call may take. */
-static size_t limit_of(const struct named *what) { return what->call == call_find_slip ? FIND_LIMIT : LIMIT; }
+static size_t limit_of(const struct named *what) {
+    return what->call == call_find_slip ? FIND_LIMIT : what->call == call_plain ? PLAIN_LIMIT : LIMIT;
+}
 
 /* Measures a call that is to give the number. */
 static void measure(const struct named *what, uint32_t number) {
@@ -192,6 +202,8 @@ static const struct named by[CALLS] = {
 static const struct named move = {"anaqsiro_move", call_move};
 static const struct named find_slip = {"anaqsiro_find_slip", call_find_slip};
 static const struct named check_slip = {"anaqsiro_check_slip", call_check_slip};
+static const struct named plain = {"anaqsiro_plain", call_plain};
+static const struct named rights_to = {"anaqsiro_rights_to", call_rights_to};
 
 /* The other calls, on the block and the list that those leave. */
 static const struct named others[] = {
@@ -239,8 +251,8 @@ static void measure_moves(void) {
     measure(&move, ANAQSIRO_NO_ROOM);
 }
 
-/* The value that a call for slips gave is the one that it is to give. */
-static void measure_slip(const struct named *what, uint32_t value) {
+/* Measures a call that is to be accepted with the value. */
+static void measure_value(const struct named *what, uint32_t value) {
     measure(what, ANAQSIRO_ACCEPTED);
     if (anaqsiro_value(answer) != value) {
         printf("%s: it is to give the value %u\n", what->name, value);
@@ -253,8 +265,31 @@ static void measure_slips(void) {
     make_chain();
     anaqsiro_read(block, sizeof block, ANAQSIRO_PERMISSION, 1, NULL, 0);
     add(ANAQSIRO_PERMISSION, LAST + 1, LAST + 1, ANAQSIRO_UPDATE);
-    measure_slip(&find_slip, ANAQSIRO_CHAIN_MAX + 256u * ANAQSIRO_CHAIN_MAX);
-    measure_slip(&check_slip, 1);
+    measure_value(&find_slip, ANAQSIRO_CHAIN_MAX + 256u * ANAQSIRO_CHAIN_MAX);
+    measure_value(&check_slip, 1);
+}
+
+/* A name that is a member of itself, by the first of as many memberships as the plain engine takes. Its frames are one for each record
+ * that it goes through, so that it goes deepest where the first record of all leads on, each time: here, for what is granted to a name
+ * that is not reached. What is granted to the user herself is the value. */
+static void make_loop(void) {
+    anaqsiro_make(block, sizeof block);
+    for (unsigned name = 1; name <= ANAQSIRO_PLAIN_RECORDS_MAX; name++) {
+        add(ANAQSIRO_MEMBERSHIP, name, name, ANAQSIRO_ALL | ANAQSIRO_X);
+    }
+    add(ANAQSIRO_PERMISSION, 1, 1, ANAQSIRO_UPDATE);
+    add(ANAQSIRO_PERMISSION, 1, 2, ANAQSIRO_ALL);
+}
+
+/* The walk with the greatest limit: a right is granted at the ends of both chains alone, and what makes the group there hers is as long a
+ * chain. */
+static void measure_limits(void) {
+    make_loop();
+    measure_value(&plain, ANAQSIRO_UPDATE);
+    make_chain();
+    anaqsiro_read(block, sizeof block, ANAQSIRO_PERMISSION, 1, NULL, 0);
+    add(ANAQSIRO_PERMISSION, LAST + 1, LAST + 1, ANAQSIRO_CREATE);
+    measure_value(&rights_to, ANAQSIRO_CREATE);
 }
 
 int main(void) {
@@ -262,6 +297,7 @@ int main(void) {
     measure_rules(by);
     measure_moves();
     measure_slips();
+    measure_limits();
     for (size_t i = 0; i < sizeof others / sizeof *others; i++) {
         measure(&others[i], ANAQSIRO_ACCEPTED);
     }

@@ -12,9 +12,10 @@
  * - anaqsiro_read CHANGES THE BLOCK, anaqsiro_write DOES NOT. The first reads a text into the block: the records that it had
  *   of that kind and key are gone. The second writes a text out of the block.
  * - A REFUSAL IS NOT ZERO: if (anaqsiro_may(..)) would take it for a yes. Test anaqsiro_value of what anaqsiro_may,
- *   anaqsiro_check_slip and anaqsiro_find_slip give and anaqsiro_held of what anaqsiro_rights gives, which are 0 for every refusal.
- *   Test anaqsiro_number of what anaqsiro_read gives, whose value may be a place, and of what anaqsiro_day and anaqsiro_next_change
- *   give, where the 0 of a refusal would be taken for 1 January 1970, or for no change any more.
+ *   anaqsiro_check_slip and anaqsiro_find_slip give, and anaqsiro_held of what anaqsiro_rights, anaqsiro_rights_to and anaqsiro_plain
+ *   give: both are 0 for every refusal. Test anaqsiro_number of what anaqsiro_read gives, whose value may be a place, and of what
+ *   anaqsiro_day and anaqsiro_next_change give, where the 0 of a refusal would be taken for 1 January 1970, or for no change any
+ *   more.
  * - A QUESTION HAS A PROFILE SINCE 0.8, AS ITS LAST ARGUMENT. Compile every file again that calls anaqsiro_rights, anaqsiro_may or
  *   one of the two by a directory. One that was compiled with a header of 0.7 is linked without a word, and its questions are
  *   asked in whatever profile happens to stand there, or refused with 15. The other way, an archive of 0.7 ignores the profile, and
@@ -24,6 +25,9 @@
  *   win over every grant asks in the strict profile.
  * - A SLIP IS OF THE BLOCK AS IT WAS, AND OF THE ORDINARY PROFILE. After a message, a read or a move, check it again before it is
  *   shown. What it shows may be barred in the strict profile: who decides by that one asks anaqsiro_may there, and not for a slip.
+ * - A LIMIT IS FOR LOOKING, NOT FOR DECIDING. At a lower limit anaqsiro_plain and anaqsiro_rights_to may show more rights than are
+ *   held, since a group that binds the user may lie further off. Who decides asks anaqsiro_may or anaqsiro_rights. And anaqsiro_plain
+ *   may take very long: do not call it where an answer is waited for.
  * - A BLOCK OF 0.4 OR BEFORE IS NOT ONE OF 0.5 OR AFTER. Its records have 20 bytes and these 24. It is refused with 2, unless it
  *   has no record. Take it over by the texts of its sets.
  * - A CHANGE WITHOUT THE DIRECTORY LEAVES IT BEHIND. Who keeps one changes the block by anaqsiro_message_by, anaqsiro_wide_by
@@ -54,11 +58,12 @@ extern "C" {
  * are the same, a block, a message, a text, a list of appointments or a slip of one version is good for the other and means the
  * same there, and every call is made and answers as before. Where any of this changes, or a program over the Rust crate has to, the
  * second number rises; where something is only added that no host keeps, the third. Slips are new in 0.9, and a host may keep them.
- * No call of 0.8 has changed, and what a host kept before is as in 0.8. */
-#define ANAQSIRO_VERSION "0.9.0"
+ * No call of 0.8 has changed, and what a host kept before is as in 0.8. 0.9.1 only adds to 0.9.0: the two calls with a limit, and the
+ * number 14, which they alone give. */
+#define ANAQSIRO_VERSION "0.9.1"
 #define ANAQSIRO_VERSION_MAJOR 0
 #define ANAQSIRO_VERSION_MINOR 9
-#define ANAQSIRO_VERSION_PATCH 0
+#define ANAQSIRO_VERSION_PATCH 1
 
 /* ---- numbers of the rules */
 
@@ -156,6 +161,13 @@ extern "C" {
  * of them there are, not how many bytes. */
 #define ANAQSIRO_CHAIN_MAX 33u
 
+/* A limit is how many membership records a chain may have at most. The greatest limit of anaqsiro_plain, and how many membership
+ * records there may be in a block that it is asked about. */
+#define ANAQSIRO_PLAIN_LIMIT_MAX 8u
+#define ANAQSIRO_PLAIN_RECORDS_MAX 64u
+/* The greatest limit of anaqsiro_rights_to: what the rules allow a chain. */
+#define ANAQSIRO_LIMIT_MAX 32u
+
 /* What a record says. */
 enum anaqsiro_kind {
     ANAQSIRO_MEMBERSHIP = 1, /* the key is a member of the group id */
@@ -224,6 +236,7 @@ enum anaqsiro_number {
     ANAQSIRO_CHAIN_LENGTH = 11,
     ANAQSIRO_OUTSIDE_RANGE = 12,
     ANAQSIRO_DIRECTORY_NOT_OWN = 13,
+    ANAQSIRO_LIMIT = 14,
     ANAQSIRO_PROFILE = 15
 };
 
@@ -400,6 +413,39 @@ uint64_t anaqsiro_find_slip(const uint8_t *block, size_t len, uint64_t user, uin
 uint64_t anaqsiro_check_slip(const uint8_t *block, size_t len, uint64_t user, uint64_t object, uint64_t right,
                              const uint16_t *user_chain, size_t user_len, const uint16_t *object_chain, size_t object_len);
 
+/* ---- the calls with a limit
+ *
+ * Both give the rights of the full question in the ordinary profile, with every chain held to at most so many membership records as
+ * the limit says. anaqsiro_plain is the plain engine, for a support desk that wants to follow a question with a finger: one function
+ * asks whether a name is reached with so many records left, another goes through that name's records and asks the first, with one
+ * fewer (docs/PLAIN.md goes through a question line by line). anaqsiro_rights_to is the walk of the other questions, held to the
+ * limit.
+ *
+ * - The limit holds for the user's chain, the object's chain (or 0 by itself), the chain that makes a group hers, of 1 to so many
+ *   records, and the chain from the object to one of her groups, of 0 to so many. So at limit 0 a right is granted to the user
+ *   herself, on the object itself or on 0, and nobody is bound.
+ * - It touches neither the filters nor what it is to be in no group at all: a filter of a group that the object's membership records
+ *   name binds at limit 0 too.
+ * - A lower limit may show more rights, since a group of hers that lies further off does not bind. A right that is shown at a limit
+ *   below 32 need not be held, and one that is not shown may be.
+ * - Where anaqsiro_plain does not refuse with 14, both give the same, which is proved. At limit 32 anaqsiro_rights_to gives the rights
+ *   that anaqsiro_rights gives in the ordinary profile.
+ * - The last argument is a limit where anaqsiro_rights has a profile. Both are numbers of 64 bits, so that no compiler finds one in
+ *   the other's place: with ANAQSIRO_ORDINARY these two ask at limit 0.
+ * - Neither takes a profile or a directory. */
+
+/* The rights that the user holds on the object, of those requested, with every chain held to the limit, 0 to
+ * ANAQSIRO_PLAIN_LIMIT_MAX. It goes through every chain and keeps no marks, so that it may take very long where there are many: 64
+ * membership records that make each of 8 names a member of all 8 give 8^8 chains, 16,777,216, for each permission record at limit 8.
+ * It is for small blocks that are looked into. A greater limit is refused with 14, and so is a block with more than
+ * ANAQSIRO_PLAIN_RECORDS_MAX membership records, those with marker counts alone among them. Numbers 0, 1, 2, 4, 5, 14. Value: the
+ * rights. */
+uint64_t anaqsiro_plain(const uint8_t *block, size_t len, uint64_t user, uint64_t object, uint64_t request, uint64_t limit);
+
+/* The same rights, by the walk of anaqsiro_rights held to the limit, 0 to ANAQSIRO_LIMIT_MAX, over any block, and without the numbers
+ * of records examined. A greater limit is refused with 14. Numbers 0, 1, 2, 4, 5, 14. Value: the rights. */
+uint64_t anaqsiro_rights_to(const uint8_t *block, size_t len, uint64_t user, uint64_t object, uint64_t request, uint64_t limit);
+
 /* ---- a block as it stands, record by record
  *
  * Only the first of these calls tests the block, so that a host can go through 2,048 records without 2,048 tests. Of a block
@@ -430,7 +476,7 @@ static inline uint32_t anaqsiro_number(uint64_t answer) { return (uint32_t)(answ
  * anaqsiro_rights is made of three parts, which the next three functions give. */
 static inline uint32_t anaqsiro_value(uint64_t answer) { return (uint32_t)(answer & 0xFFFFFFFFu); }
 
-/* The rights of an answer of anaqsiro_rights, as a mask; 0 where the call was refused. */
+/* The rights of an answer of anaqsiro_rights, anaqsiro_rights_to or anaqsiro_plain, as a mask; 0 where the call was refused. */
 static inline uint32_t anaqsiro_held(uint64_t answer) { return anaqsiro_value(answer) & ANAQSIRO_ALL; }
 
 /* The membership records examined on the user's side, of an answer of anaqsiro_rights; 0 where the call was refused. */
@@ -484,6 +530,8 @@ static inline const char *anaqsiro_refusal_text(uint64_t number) {
     case ANAQSIRO_OUTSIDE_RANGE:
         return "a 257th appointment, a date that is none, or a day, date, term or anniversary outside the range";
     case ANAQSIRO_DIRECTORY_NOT_OWN: return "the lent directory has the wrong length or is not the block's own";
+    case ANAQSIRO_LIMIT:
+        return "a limit above 8 or more than 64 membership records for the plain engine; a limit above 32";
     case ANAQSIRO_PROFILE: return "a profile other than ordinary or strict";
     default: return "unknown";
     }

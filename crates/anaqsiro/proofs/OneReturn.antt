@@ -16,8 +16,12 @@ use Rattle.index.proofs.laws.message.OneMessage.{one-sent}
 use Rattle.directory.specs.By.{MakesDirectory, SendsBy, ReadBy, WriteBy}
 use Rattle.directory.proofs.OneBy.{one-made, one-sent-by, one-read-by, one-write-by}
 use Rattle.rights.specs.Questions.{Full, Short, FullBy, ShortBy}
+use Rattle.rights.specs.HeldTo.{HeldTo}
+use Rattle.plain.specs.Plain.{Within}
 use Rattle.rights.proofs.laws.questions.OneAnswer.{one-full, one-short}
 use Rattle.rights.proofs.laws.questions.SameAnswers.{one-full-by, one-short-by}
+use Rattle.rights.proofs.laws.questions.Limits.{one-held-to}
+use Rattle.plain.proofs.laws.EnginesAgree.{one-plain}
 use Rattle.slips.specs.Calls.{ChecksSlip, Outcome, Found}
 use Rattle.slips.proofs.laws.OneSlip.{one-check, two-finds}
 use Rattle.calendar.specs.declared.Date.{Date}
@@ -26,7 +30,7 @@ use Rattle.calendar.proofs.laws.OneAnswer.{one-day-of, one-date-of}
 use Rattle.appointments.specs.Moves.{Moved}
 use Rattle.appointments.specs.Asking.{Stands, NextChange}
 use Rattle.appointments.proofs.laws.OneAnswer.{one-moved, one-stands, one-next-change}
-use Rattle.anaqsiro.specs.Returned.{Packed, Returned, Parts, InParts, MakeReturns, SendsReturns, RightsReturns, MayReturns, WriteReturns, ReadReturns, ChainParts, InChains, FindSlipReturns, CheckSlipReturns, DirectoryReturns, SendsByReturns, RightsByReturns, MayByReturns, WriteByReturns, ReadByReturns, TestedReturns, SizeReturns, RecordReturns, CountReturns, DayReturns, DateParts, DateReturns, MoveReturns, NextReturns, StandsReturns}
+use Rattle.anaqsiro.specs.Returned.{Packed, Returned, Parts, InParts, MakeReturns, SendsReturns, RightsReturns, MayReturns, WriteReturns, ReadReturns, ChainParts, InChains, FindSlipReturns, CheckSlipReturns, RightsToReturns, PlainReturns, DirectoryReturns, SendsByReturns, RightsByReturns, MayByReturns, WriteByReturns, ReadByReturns, TestedReturns, SizeReturns, RecordReturns, CountReturns, DayReturns, DateParts, DateReturns, MoveReturns, NextReturns, StandsReturns}
 
 -- The number is the upper half of what is returned, and the value the lower.
 pub halves : {n v r : ℕ} → Packed n v r → (n ≡ r / 4294967296) × (v ≡ r % 4294967296)
@@ -140,6 +144,17 @@ module _ (b : List ℕ) (u o right : ℕ) (us os : List ℕ) where
       inl (omega arith, ap (λ (a : Outcome). a .3) e, ap (λ (a : Outcome). a .4) e))
       (λ found. inr ((n, v, p, (x, y, parts, found .0)), (n₂, v₂, p₂, (x₂, y₂, parts₂, found .1))))
       (two-finds b u o right us os (n, x, y, us₁, os₁) (n₂, x₂, y₂, us₂, os₂) f f₂)
+
+-- ---- M-111: the rights for a chain limit
+
+module _ (b : List ℕ) (u o request limit : ℕ) where
+  pub one-rights-to-return : (r r₂ : ℕ) → RightsToReturns b u o request limit r → RightsToReturns b u o request limit r₂ → r ≡ r₂
+  unfolding RightsToReturns
+  one-rights-to-return = one-answer (HeldTo b u o request limit) (one-held-to b u o request limit)
+
+  pub one-plain-return : (r r₂ : ℕ) → PlainReturns b u o request limit r → PlainReturns b u o request limit r₂ → r ≡ r₂
+  unfolding PlainReturns
+  one-plain-return = one-answer (Within b u o request limit) (one-plain b u o request limit)
 
 -- ---- M-106: by a directory
 

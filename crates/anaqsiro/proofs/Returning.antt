@@ -12,7 +12,9 @@ use Rattle.rights.specs.declared.Rights.{Rights}
 use Rattle.rights.specs.declared.Rights.the-variants as rights
 use Rattle.rights.specs.declared.Answer.{Answer}
 use Rattle.rights.specs.declared.Answer.the-variants as answer
-use Rattle.rights.specs.Questions.{RightsMean, AnswerMeans}
+use Rattle.rights.specs.declared.Given.{Given}
+use Rattle.rights.specs.declared.Given.the-variants as given
+use Rattle.rights.specs.Questions.{RightsMean, AnswerMeans, GivenMeans}
 use Rattle.slips.specs.declared.Sought.{Sought}
 use Rattle.slips.specs.declared.Sought.the-variants as sought
 use Rattle.slips.specs.Calls.{SoughtMeans}
@@ -28,7 +30,7 @@ use Rattle.appointments.specs.declared.Stood.{Stood}
 use Rattle.appointments.specs.declared.Stood.the-variants as stood
 use Rattle.appointments.specs.Asking.{Stands, NextChange, StandsAnswers, NextAnswers}
 use Rattle.anaqsiro.specs.Returned.{Parts, Returned, InParts, ChainParts, InChains, DateParts}
-use Rattle.anaqsiro.specs.work.Answered.{RightsAs, AnswerAs, WroteAs, TookAs, SoughtAs, DayAs, DateAs, NextAs, StoodAs}
+use Rattle.anaqsiro.specs.work.Answered.{RightsAs, AnswerAs, GivenAs, WroteAs, TookAs, SoughtAs, DayAs, DateAs, NextAs, StoodAs}
 
 pub rights-returned : (Outcome : ℕ × ℕ × ℕ × ℕ → Type 0) (a : Rights) {r : ℕ} → RightsMean Outcome a → RightsAs a r
     → Returned (InParts Outcome) r
@@ -62,6 +64,12 @@ pub sought-returned : (Outcome : ℕ → ℕ → ℕ → Type 0) (a : Sought) {r
 sought-returned Outcome (sought.Slip n m) p (v, parts, packed) = (0, v, packed, (n, m, parts, p .1))
 sought-returned Outcome sought.None p packed = (0, 0, packed, (0, 0, no-names, p))
 sought-returned Outcome (sought.Refused n) p packed = (n, 0, packed, (0, 0, no-names, p .1))
+
+-- ---- M-111
+
+pub given-returned : (Outcome : ℕ × ℕ → Type 0) (a : Given) {r : ℕ} → GivenMeans Outcome a → GivenAs a r → Returned (λ n v. Outcome (n, v)) r
+given-returned Outcome (given.Mask m) p packed = (0, m, packed, p)
+given-returned Outcome (given.Refused n) p packed = (n, 0, packed, p .1)
 
 -- ---- M-105
 

@@ -13,6 +13,8 @@ use Rattle.index.specs.Wide.Sent.{plain, wide}
 use Rattle.index.specs.Calls.{blockNeeds, Makes, Sends, WritesSet, ReadsSet}
 use Rattle.directory.specs.By.{MakesDirectory, SendsBy, ReadBy, WriteBy}
 use Rattle.rights.specs.Questions.{Full, Short, FullBy, ShortBy}
+use Rattle.rights.specs.HeldTo.{HeldTo}
+use Rattle.plain.specs.Plain.{Within}
 use Rattle.slips.specs.Calls.{ChecksSlip, FindsSlip}
 use Rattle.calendar.specs.declared.Date.{Date}
 use Rattle.calendar.specs.Calls.{DayOf, DateOf}
@@ -84,6 +86,16 @@ FindSlipReturns b u o right us os r us′ os′ = Returned (InChains (λ n x y. 
 -- 1 for yes, 0 for no.
 unfoldable pub CheckSlipReturns : List ℕ → ℕ → ℕ → ℕ → List ℕ → List ℕ → ℕ → Type 0
 CheckSlipReturns b u o right us os r = Returned (λ n v. ChecksSlip b u o right us os (n, v)) r
+
+-- ---- M-111: the rights for a chain limit
+
+-- By the main walk.
+unfoldable pub RightsToReturns : List ℕ → ℕ → ℕ → ℕ → ℕ → ℕ → Type 0
+RightsToReturns b u o request limit r = Returned (λ n v. HeldTo b u o request limit (n, v)) r
+
+-- By the plain engine.
+unfoldable pub PlainReturns : List ℕ → ℕ → ℕ → ℕ → ℕ → ℕ → Type 0
+PlainReturns b u o request limit r = Returned (λ n v. Within b u o request limit (n, v)) r
 
 -- ---- M-106: by a directory
 

@@ -1,5 +1,10 @@
 // The C interface: each call returns the refusal's number times 2^32, plus a value. On refusal the value is 0, but for 9,
 // which comes with the place of the text. A call whose name ends in `_by` is the call of that name, by a directory.
+
+mod limits;
+
+pub use crate::limits::anaqsiro_plain;
+pub use crate::limits::anaqsiro_rights_to;
 use appointments::Next;
 use appointments::Stood;
 use calendar::Dated;
@@ -10,7 +15,6 @@ use index::Wrote;
 use rights::Answer;
 use rights::Rights;
 use slips::Sought;
-ghost use mathlib.Core.Path.{_≡_};
 ghost use Prim.Native.Nat.{_<_};
 ghost use Rattle.anaqsiro.specs.Returned.{Packed, Parts, MakeReturns, MessageReturns, WideReturns, RightsReturns, MayReturns, WriteReturns, ReadReturns, FindSlipReturns, CheckSlipReturns, DirectoryReturns, MessageByReturns, WideByReturns, RightsByReturns, MayByReturns, WriteByReturns, ReadByReturns, TestedReturns, SizeReturns, RecordReturns, CountReturns, DayReturns, DateReturns, MoveReturns, NextReturns, StandsReturns};
 ghost use Rattle.anaqsiro.specs.work.Answered.{RightsFit, RightsAs, AnswerAs, WroteFits, WroteAs, TookFits, TookAs, SoughtAs, DayFits, DayAs, DateFits, DateAs, NextFits, NextAs, StoodAs};

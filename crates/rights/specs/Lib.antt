@@ -6,5 +6,6 @@ pub mod Profiles
 pub mod Examined
 pub mod Questions
 pub mod Through
+pub mod HeldTo
 -- What only proofs need.
 pub mod work

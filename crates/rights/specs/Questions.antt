@@ -13,6 +13,9 @@ use Rattle.rights.specs.declared.Rights.the-variants as rights
 use Rattle.rights.specs.declared.Answer.{Answer}
 use Rattle.rights.specs.declared.Answer.the-variants as answer
 use Rattle.rights.specs.declared.Profile.{Profile}
+use Rattle.rights.specs.declared.Given.{Given}
+use Rattle.rights.specs.declared.Given.the-variants as given
+use Rattle.rights.specs.Held.{chainLimit}
 use Rattle.rights.specs.Profiles.{HoldsIn, IsProfile, profileOf}
 use Rattle.rights.specs.Examined.{Examined, roundCount}
 
@@ -28,15 +31,15 @@ profileNeeds profile = (15, IsProfile profile) ∷ []
 unfoldable pub questionNeeds : List ℕ → ℕ → ℕ → ℕ → ℕ → List (ℕ × Type 0)
 questionNeeds b u o request profile = blockNeeds b ++ (askNeeds u o request ++ profileNeeds profile)
 
--- "the rights held, limited to the rights requested", in a profile
-unfoldable pub Limited : Profile → List ℕ → ℕ → ℕ → ℕ → ℕ → Type 0
-Limited p b u o request mask = Mask mask (λ k. HoldsIn p b u o k × In k request)
+-- "the rights held, limited to the rights requested", in a profile, with chains of at most n records
+unfoldable pub Limited : Profile → ℕ → List ℕ → ℕ → ℕ → ℕ → ℕ → Type 0
+Limited p n b u o request mask = Mask mask (λ k. HoldsIn p n b u o k × In k request)
 
 -- An accepted full question: the number 0, the rights, and, M-109: "the number of membership records examined, one for the user's
 -- side and one for the object's", which are the same in every profile.
 abbrev pub Reports : Profile → List ℕ → ℕ → ℕ → ℕ → (ℕ × ℕ × ℕ × ℕ) → Type 0
 Reports p b u o request a =
-    (a .0 ≡ 0) × Limited p b u o request (a .1) × Examined b u roundCount (a .2) × Examined b o roundCount (a .3)
+    (a .0 ≡ 0) × Limited p chainLimit b u o request (a .1) × Examined b u roundCount (a .2) × Examined b o roundCount (a .3)
 
 -- A refused one: no right, and, M-109: "A refused call reports 0."
 abbrev pub unreported : ℕ → ℕ × ℕ × ℕ × ℕ
@@ -49,7 +52,7 @@ Full b u o request profile a =
 
 -- "every requested right is held", in a profile
 unfoldable pub HoldsAll : Profile → List ℕ → ℕ → ℕ → ℕ → Type 0
-HoldsAll p b u o request = (k : ℕ) → k < rightCount → In k request → HoldsIn p b u o k
+HoldsAll p b u o request = (k : ℕ) → k < rightCount → In k request → HoldsIn p chainLimit b u o k
 
 -- An accepted question with yes or no: the number 0, and 1 for yes, exactly when P holds, or 0 for no.
 abbrev pub YesWhen : Type 0 → (ℕ × ℕ) → Type 0
@@ -81,6 +84,10 @@ abbrev pub AnswerMeans : (ℕ × ℕ → Type 0) → Answer → Type 0
 AnswerMeans Outcome answer.Yes = Outcome (0, 1)
 AnswerMeans Outcome answer.No = Outcome (0, 0)
 AnswerMeans Outcome (answer.Refused n) = (0 < n) × Outcome (n, 0)
+
+abbrev pub GivenMeans : (ℕ × ℕ → Type 0) → Given → Type 0
+GivenMeans Outcome (given.Mask mask) = Outcome (0, mask)
+GivenMeans Outcome (given.Refused n) = (0 < n) × Outcome (n, 0)
 
 unfoldable pub Asks : List ℕ → ℕ → ℕ → ℕ → ℕ → Rights → Type 0
 Asks b u o request profile r = RightsMean (Full b u o request profile) r

@@ -1,6 +1,5 @@
 // Exclusive groups: whether an object is open to a user.
 
-use crate::LIMIT;
 use crate::LIST;
 use crate::UNKNOWN;
 use crate::lookup::records_of;
@@ -12,7 +11,7 @@ use index::ALL;
 use index::Kind;
 use index::NAMES;
 use index::PAIR;
-ghost use Prim.Native.Nat.{_<_};
+ghost use Prim.Native.Nat.{_<_, _≤_};
 ghost use lib.ListN.{getD};
 ghost use Rattle.index.specs.declared.Kind.the-variants.{Membership};
 ghost use Rattle.index.specs.Block.{Sized, Good, IsName, Of, key, id};
@@ -66,12 +65,15 @@ fn meets(block: &[u8], users: &[u8; NAMES], objects: &[u8; NAMES]) -> bool
 }
 
 // If the user is bound, a chain leads from the object to one of her groups. Both chains are walked as the rights are; the last record of a
-// chain to her group is looked at by itself.
-fn in_hers(block: &[u8], directory: &[u16], user: usize, object: usize) -> bool
+// chain to her group is looked at by itself: with a limit of no records there is none.
+fn in_hers(block: &[u8], directory: &[u16], user: usize, object: usize, limit: usize) -> bool
     requires { ⌜ Sized (now block) × (Good (now block) × Lent (now block) (now directory)) ⌝ }
-    requires { ⌜ IsName user × IsName object ⌝ }
-    ensures { λ r. ⌜ Says (Bound chainLimit (now (block .entry)) user → InHers chainLimit (now (block .entry)) user object) r ⌝ }
+    requires { ⌜ IsName user × (IsName object × (limit ≤ chainLimit)) ⌝ }
+    ensures { λ r. ⌜ Says (Bound limit (now (block .entry)) user → InHers limit (now (block .entry)) user object) r ⌝ }
 {
+    if limit == 0 {
+        return true;
+    }
     let mut users = [0u8; NAMES];
     let mut objects = [0u8; NAMES];
     let mut names = [0u16; LIST];
@@ -82,7 +84,7 @@ fn in_hers(block: &[u8], directory: &[u16], user: usize, object: usize) -> bool
         directory,
         Carry::WithoutN,
         user,
-        LIMIT - 1,
+        limit - 1,
         &mut users,
         &mut names,
         &mut next,
@@ -97,7 +99,7 @@ fn in_hers(block: &[u8], directory: &[u16], user: usize, object: usize) -> bool
         directory,
         Carry::Member,
         object,
-        LIMIT,
+        limit,
         &mut objects,
         &mut names,
         &mut next,
@@ -107,13 +109,19 @@ fn in_hers(block: &[u8], directory: &[u16], user: usize, object: usize) -> bool
 }
 
 // The object is open to the user. (Where no record counts X nobody is bound, and neither question asks.)
-pub(crate) fn is_open(block: &[u8], directory: &[u16], user: usize, object: usize) -> bool
+pub(crate) fn is_open(
+    block: &[u8],
+    directory: &[u16],
+    user: usize,
+    object: usize,
+    limit: usize,
+) -> bool
     requires { ⌜ Sized (now block) × (Good (now block) × Lent (now block) (now directory)) ⌝ }
-    requires { ⌜ IsName user × IsName object ⌝ }
-    ensures { λ r. ⌜ Says (Open chainLimit (now (block .entry)) user object) r ⌝ }
+    requires { ⌜ IsName user × (IsName object × (limit ≤ chainLimit)) ⌝ }
+    ensures { λ r. ⌜ Says (Open limit (now (block .entry)) user object) r ⌝ }
 {
     if in_no_group(block, directory, object) {
         return true;
     }
-    in_hers(block, directory, user, object)
+    in_hers(block, directory, user, object, limit)
 }

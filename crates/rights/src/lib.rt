@@ -4,12 +4,15 @@ mod filter;
 mod grants;
 mod groups;
 mod letting;
+mod limited;
 mod lookup;
 mod members;
 mod questions;
 mod walk;
 
 pub use crate::letting::let_through;
+pub use crate::limited::rights_to;
+pub use crate::questions::ask_refusal;
 pub use crate::questions::may;
 pub use crate::questions::may_by;
 pub use crate::questions::rights_by;
@@ -44,8 +47,8 @@ pub enum Answer {
     Refused(u8),
 }
 
-// What the filters and exclusive groups let through: the mask of the rights, or the number of the refusal.
-pub enum Through {
+// What a call gives that answers with rights alone: their mask, or the number of the refusal.
+pub enum Given {
     Mask(u8),
     Refused(u8),
 }

@@ -9,7 +9,7 @@ use Rattle.index.specs.Letters.{rightCount}
 use Rattle.index.specs.Numbers.{First, Each}
 use Rattle.index.specs.Block.{IsName}
 use Rattle.rights.specs.declared.Answer.{Answer}
-use Rattle.rights.specs.Held.{Holds}
+use Rattle.rights.specs.Held.{Holds, chainLimit}
 use Rattle.rights.specs.Questions.{YesWhen, AnswerMeans}
 use Rattle.rights.specs.Through.{throughNeeds}
 use Rattle.slips.specs.declared.Sought.{Sought}
@@ -64,7 +64,7 @@ Found b u o right us os a =
 -- "none" "leaves both lent lists unchanged", and the right is not held. M-112: "slips belong to the ordinary one", the ordinary profile, in which
 -- held is `Holds`.
 abbrev pub NoneFound : List ℕ → ℕ → ℕ → ℕ → List ℕ → List ℕ → Outcome → Type 0
-NoneFound b u o right us os a = (ForRight right (Holds b u o) → ⊥) × (a ≡ (0, 0, 0, us, os))
+NoneFound b u o right us os a = (ForRight right (Holds chainLimit b u o) → ⊥) × (a ≡ (0, 0, 0, us, os))
 
 -- find_slip. "A slip is found exactly when the right is held" (law `found-held`).
 unfoldable pub FindsSlip : List ℕ → ℕ → ℕ → ℕ → List ℕ → List ℕ → Outcome → Type 0

@@ -5,7 +5,7 @@ use crate::testing::check_refusal;
 use crate::testing::right_of;
 use index::Kind;
 use rights::Answer;
-use rights::Through;
+use rights::Given;
 ghost use Prim.Native.Nat.{_<_};
 ghost use mathlib.Core.Logic.{_⊎_};
 ghost use Rattle.index.specs.Letters.{rightCount, Mask};
@@ -113,7 +113,7 @@ pub fn check_slip(
 {
     let through = rights::let_through(block, user, object);
     match through {
-        Through::Refused(number) => Answer::Refused(number),
-        Through::Mask(mask) => checked(block, user, object, right, users, objects, mask),
+        Given::Refused(number) => Answer::Refused(number),
+        Given::Mask(mask) => checked(block, user, object, right, users, objects, mask),
     }
 }

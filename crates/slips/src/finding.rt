@@ -12,7 +12,7 @@ use crate::trails::walk;
 use index::Kind;
 use index::NAMES;
 use index::PAIR;
-use rights::Through;
+use rights::Given;
 ghost use mathlib.Core.Path.{_≡_};
 ghost use mathlib.Core.Logic.{_⊎_};
 ghost use Prim.Native.Nat.{_+_, _^_, _<_, _≤_};
@@ -182,7 +182,7 @@ pub fn find_slip(
 {
     let through = rights::let_through(block, user, object);
     match through {
-        Through::Refused(number) => Sought::Refused(number),
-        Through::Mask(mask) => found(block, user, object, right, mask, users, objects),
+        Given::Refused(number) => Sought::Refused(number),
+        Given::Mask(mask) => found(block, user, object, right, mask, users, objects),
     }
 }

@@ -15,10 +15,14 @@ pub mod NotVacuousDays
 pub mod SlipTable
 pub mod SlipsTurnedAway
 pub mod NotVacuousSlips
+pub mod LimitTable
+pub mod LimitsTurnedAway
+pub mod NotVacuousLimits
 -- What they rest on: one outcome for each promise, and the tests that compute.
 pub mod Programs
 pub mod ByDirectory
 pub mod BlockTest
+pub mod MaskTest
 pub mod RightsTest
 pub mod TextTest
 pub mod RefusedTest

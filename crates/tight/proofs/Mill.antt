@@ -1,23 +1,22 @@
 -- The mill's own case: two appointments give the right to read on 9 to 1, then one ends, then the other; and one with a marker.
-use Prim.Native.Nat.{ℕ, _≤_}
+use Prim.Native.Nat.{ℕ}
 use mathlib.Core.Path.{_≡_, refl, sym, ap}
 use mathlib.Core.List.{List, [], _∷_, List·Permᴰ}
 use mathlib.Core.Logic.{inr}
 use lib.ListN.{length}
 use native.Mathlib.Omega.{arith}
 use Rattle.index.specs.declared.Kind.the-variants.{Membership, Permission}
-use Rattle.index.specs.Letters.{markerX, markerN, In, mayHave}
+use Rattle.index.specs.Letters.{markerX, markerN, mayHave}
 use Rattle.index.specs.Block.{number, Sized, countAt, count}
 use Rattle.index.specs.Message.{kindOf, kindNumber, kindIn, flags, present, markers, maskWith, halfAt, halves, previous, Half, moves}
 use Rattle.index.specs.Wide.{Sent}
 use Rattle.index.specs.Wide.Sent.{plain}
-use Rattle.index.specs.Calls.{blockNeeds, Makes, makeNeeds, Message}
+use Rattle.index.specs.Calls.{Makes, makeNeeds, Message}
 use Rattle.index.specs.History.{Accepted, Labelled, Statement, left, others, after, History, movesOf, tally}
 use Rattle.index.specs.History.Accepted.{next}
 use Rattle.index.specs.History.History.{accepted}
-use Rattle.index.proofs.laws.Firsts.{All, first-all}
 use Rattle.index.proofs.laws.block.GoodTest.{good-test}
-use Rattle.index.proofs.laws.block.Masks.{four}
+use Rattle.rights.specs.Held.{chainLimit}
 use Rattle.rights.specs.Profiles.{HoldsIn, IsProfile, profileOf}
 use Rattle.rights.specs.Questions.{Limited, Full, Short}
 use Rattle.tight.specs.Blocks.{giving, withdrawing, nothing, reads, give, withdraw}
@@ -67,7 +66,7 @@ both-ended : Accepted nothing (plain give ∷ plain give ∷ plain withdraw ∷ 
 both-ended = next first-given (next second-given (next one-withdrawn (next both-withdrawn Accepted.nothing)))
 
 -- "a right she had never lost": user 1 holds right 1, to read, on 9, in each profile.
-pub never-lost : (p : ℕ) → IsProfile p → HoldsIn (profileOf p) (reads 1) 1 9 1
+pub never-lost : (p : ℕ) → IsProfile p → HoldsIn (profileOf p) chainLimit (reads 1) 1 9 1
 unfolding Limited
 never-lost p is = accepted-full (reads 1) 1 9 15 p 2 0 0 (held-by-one p is) .1 .1 .1 1 (omega arith) .0 refl .0
 

@@ -16,6 +16,7 @@ use Rattle.index.proofs.laws.Tests.{both, all, all-at}
 use Rattle.index.proofs.laws.message.Halves.{differ}
 use Rattle.rights.specs.declared.Profile.{Profile}
 use Rattle.rights.specs.declared.Profile.the-variants.{Ordinary, Strict}
+use Rattle.rights.specs.Held.{chainLimit}
 use Rattle.rights.specs.Profiles.{HoldsIn, ordinary, strict, IsProfile, profileOf}
 use Rattle.rights.specs.Questions.{questionNeeds, Limited, Reports, unreported, Full}
 use Rattle.rights.proofs.laws.tests.ExaminedTest.{examinedTest, examined-test}
@@ -23,21 +24,12 @@ use Rattle.rights.proofs.laws.tests.ChainTest.{and-true, not-test}
 use Rattle.rights.proofs.laws.tests.HoldsTest.{holdsTest, holds-test, barredTest, barred-test}
 use Rattle.tight.specs.Examples.{InEach}
 use Rattle.tight.proofs.BlockTest.{blockTest, block-test}
-
-abbrev pub same : Bool → Bool → Bool
-same true t = t
-same false t = not t
+use Rattle.tight.proofs.MaskTest.{same, same-true}
 
 -- A right that is in the one mask or not, and in the other or not: as it is held before, and as it is barred, which is looked at only then.
 abbrev agree : Bool → Bool → Bool → Bool → Bool
 agree m s true barred = m && same s (not barred)
 agree m s false barred = not m && not s
-
-pub same-true : (s t : Bool) → same s t ≡ true → s ≡ t
-same-true true true e = refl
-same-true true false e = sym e
-same-true false true e = e
-same-true false false e = refl
 
 agree-right : (m s held barred : Bool) → agree m s held barred ≡ true → (m ≡ held) × (s ≡ held && not barred)
 agree-right m s true barred e = let p = both m (same s (not barred)) e in (p .0, same-true s (not barred) (p .1))
@@ -46,10 +38,17 @@ agree-right false true false barred e = absurd (differ (sym e))
 agree-right false false false barred e = (refl, refl)
 
 module _ (b : List ℕ) (u : ℕ) where
+  -- Held as before M-112, and barred, by the chains of the full question.
+  abbrev holding : ℕ → ℕ → Bool
+  holding o k = holdsTest chainLimit b u o k
+
+  abbrev barring : ℕ → ℕ → Bool
+  barring o k = barredTest chainLimit b u o k
+
   -- Right k is in the first mask exactly where the user holds it on the object o in the ordinary profile, and in the second in the strict one.
   abbrev rightTest : ℕ → ℕ → ℕ → ℕ → Bool
   rightTest mask in-strict o k =
-      agree (eqb (mask / 2 ^ k % 2) 1) (eqb (in-strict / 2 ^ k % 2) 1) (holdsTest b u o k) (barredTest b u o k)
+      agree (eqb (mask / 2 ^ k % 2) 1) (eqb (in-strict / 2 ^ k % 2) 1) (holding o k) (barring o k)
 
   abbrev objectTest : ℕ → ℕ → ℕ → Bool
   objectTest mask in-strict o = all (rightTest mask in-strict o) 0 rightCount
@@ -66,28 +65,30 @@ module _ (b : List ℕ) (u : ℕ) where
 
   -- The mask has just the rights that are held in the profile.
   abbrev Told : Profile → ℕ → ℕ → Type 0
-  Told p mask o = (k : ℕ) → k < rightCount → In k mask ↔ (HoldsIn p b u o k × In k allRights)
+  Told p mask o = (k : ℕ) → k < rightCount → In k mask ↔ (HoldsIn p chainLimit b u o k × In k allRights)
 
   object-test : Good b → (mask in-strict o : ℕ) → objectTest mask in-strict o ≡ true → Told Ordinary mask o × Told Strict in-strict o
   unfolding HoldsIn
   object-test g mask in-strict o e = (
     (λ k l.
         let s = right k l .0 in
-        ((λ i. (holds-test g u o k .0 (sym s ∙ eq-eqb _ _ i), in-all k l)), (λ h. eqb-true _ _ (s ∙ holds-test g u o k .1 (h .0))))),
+        let held = holds-test g chainLimit u o k in
+        ((λ i. (held .0 (sym s ∙ eq-eqb _ _ i), in-all k l)), (λ h. eqb-true _ _ (s ∙ held .1 (h .0))))),
     (λ k l.
         let s = right k l .1 in
-        let barred = not-test (barredTest b u o k) (barred-test g u o k l) in (
+        let held = holds-test g chainLimit u o k in
+        let barred = not-test (barring o k) (barred-test g chainLimit u o k l) in (
           (λ i.
-              let p = both (holdsTest b u o k) _ (sym s ∙ eq-eqb _ _ i) in
-              ((holds-test g u o k .0 (p .0), barred .0 (p .1)), in-all k l)),
-          (λ h. eqb-true _ _ (s ∙ and-true (holds-test g u o k .1 (h .0 .0)) (barred .1 (h .0 .1)))),
+              let p = both (holding o k) _ (sym s ∙ eq-eqb _ _ i) in
+              ((held .0 (p .0), barred .0 (p .1)), in-all k l)),
+          (λ h. eqb-true _ _ (s ∙ and-true (held .1 (h .0 .0)) (barred .1 (h .0 .1)))),
         )),
   )
     where
       right : (k : ℕ) → k < rightCount
-          → (eqb (mask / 2 ^ k % 2) 1 ≡ holdsTest b u o k) × (eqb (in-strict / 2 ^ k % 2) 1 ≡ holdsTest b u o k && not (barredTest b u o k))
+          → (eqb (mask / 2 ^ k % 2) 1 ≡ holding o k) × (eqb (in-strict / 2 ^ k % 2) 1 ≡ holding o k && not (barring o k))
       right k l =
-          agree-right _ _ _ (barredTest b u o k) (all-at (rightTest mask in-strict o) 0 rightCount e k (omega arith) (omega arith))
+          agree-right _ _ _ (barring o k) (all-at (rightTest mask in-strict o) 0 rightCount e k (omega arith) (omega arith))
 
   -- The rights in the profile of this number.
   full : (p mask : ℕ) → IsProfile p → Sized b × Good b → IsName u → mask < 2 ^ rightCount → (o : ℕ) → IsName o

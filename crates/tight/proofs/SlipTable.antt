@@ -1,11 +1,11 @@
 -- M-103: the table of slips, by tests that compute.
-use Prim.Native.Nat.{ℕ, _+_, _/_, _%_, _^_, _<_, _≤_}
-use mathlib.Core.Path.{_≡_, refl, sym, ap, _∙_}
+use Prim.Native.Nat.{ℕ, _+_, _^_, _<_, _≤_}
+use mathlib.Core.Path.{_≡_, refl, sym, ap}
 use mathlib.Core.Bool.{Bool, true, false, cond, _&&_}
 use mathlib.Core.List.{List}
 use mathlib.Core.Logic.{_↔_, ⊎-elim}
 use native.Mathlib.Omega.{arith}
-use borrow.Author.Tests.{eqb-true, eq-eqb, ltb-true, leb-true}
+use borrow.Author.Tests.{eqb-true, ltb-true, leb-true}
 use lib.Dec.{eqb, ltb, leb}
 use lib.ListN.{length}
 use Rattle.index.specs.Letters.{rightCount, mayHave}
@@ -15,11 +15,10 @@ use Rattle.index.specs.Calls.{blockNeeds}
 use Rattle.index.specs.work.Checks.{Says}
 use Rattle.index.proofs.laws.Answer.{yes-is}
 use Rattle.index.proofs.laws.Firsts.{All, first-all, first-sure}
-use Rattle.index.proofs.laws.Tests.{both, all, all-at}
-use Rattle.rights.specs.Held.{Holds}
+use Rattle.index.proofs.laws.Tests.{both}
+use Rattle.rights.specs.Held.{chainLimit, Holds}
 use Rattle.rights.specs.Through.{throughNeeds, Lets, LetsThrough}
 use Rattle.rights.proofs.laws.questions.Letting.{Named, all-named}
-use Rattle.rights.proofs.laws.tests.ChainTest.{and-true}
 use Rattle.rights.proofs.laws.tests.FilterTest.{passesTest, passes-test}
 use Rattle.rights.proofs.laws.tests.OpenTest.{openTest, open-test}
 use Rattle.slips.specs.Slip.{mostNames, Slip, Shortest}
@@ -30,11 +29,11 @@ use Rattle.slips.proofs.laws.tests.SlipTest.{slipTest, slip-says}
 use Rattle.tight.specs.Slips.{Case, Shows, chains, closed, ways, through}
 use Rattle.tight.proofs.BlockTest.{blockTest, block-test}
 use Rattle.tight.proofs.CaseTest.{allTests, all-tests}
-use Rattle.tight.proofs.RightsTest.{same, same-true}
+use Rattle.tight.proofs.MaskTest.{both-tests, maskTest, mask-test}
 
 -- ---- what the calls need
 
-abbrev namedTest : List ℕ → ℕ → ℕ → Bool
+abbrev pub namedTest : List ℕ → ℕ → ℕ → Bool
 namedTest b u o = blockTest b && (ltb u nameCount && ltb o nameCount)
 
 pub named-test : (b : List ℕ) (u o : ℕ) → namedTest b u o ≡ true → Named b u o
@@ -103,7 +102,7 @@ foundTest b u o k us os = namedTest b u o && (ltb k rightCount && slipTest b u o
 found-test : (b : List ℕ) (u o k : ℕ) (us os : List ℕ) → foundTest b u o k us os ≡ true → Shows (Case.found b u o k us os)
 unfolding FindsSlip
 found-test b u o k us os e xs ys lx ly a f =
-    ⊎-elim (λ w. (w, shorter w)) (λ none. absurd (none .0 (for k small (Holds b u o) .1 (slip-holds slip))))
+    ⊎-elim (λ w. (w, shorter w)) (λ none. absurd (none .0 (for k small (Holds chainLimit b u o) .1 (slip-holds slip))))
     (first-sure (λ n. (n, 0, 0, xs, ys)) _ a (findNeeds b u o (2 ^ k) xs ys) (find-all b u o k small n xs ys lx ly) f)
   where
     p : (namedTest b u o ≡ true) × (ltb k rightCount && slipTest b u o k us os ≡ true)
@@ -123,31 +122,22 @@ found-test b u o k us os e xs ys lx ly a f =
         let least = for k small (λ k. Shortest b u o k vs ws) .0 w .least us os slip in
         omega (arith, least, ap (λ (a : Outcome). a .1) is, ap (λ (a : Outcome). a .2) is)
 
--- Right k is in the mask exactly where it is let through.
-abbrev rightTest : List ℕ → ℕ → ℕ → ℕ → ℕ → Bool
-rightTest b u o mask k = same (eqb (mask / 2 ^ k % 2) 1) (passesTest b o k && openTest b u o)
+-- Right k is let through.
+abbrev throughTest : List ℕ → ℕ → ℕ → ℕ → Bool
+throughTest b u o k = passesTest b o k && openTest chainLimit b u o
 
 abbrev letsTest : List ℕ → ℕ → ℕ → ℕ → Bool
-letsTest b u o mask = namedTest b u o && (ltb mask (2 ^ rightCount) && all (rightTest b u o mask) 0 rightCount)
+letsTest b u o mask = namedTest b u o && maskTest mask (throughTest b u o)
 
 lets-test : (b : List ℕ) (u o mask : ℕ) → letsTest b u o mask ≡ true → LetsThrough b u o (0, mask)
 unfolding LetsThrough
 lets-test b u o mask e =
     let p = both (namedTest b u o) _ e in
-    let q = both (ltb mask (2 ^ rightCount)) _ (p .1) in
     let n = named-test b u o (p .0) in
+    let g = n .good in
     first-all (λ n. (n, 0)) (Lets b u o) (0, mask) (throughNeeds b u o) (all-named b u o n) (
       refl,
-      (
-        ltb-true _ _ (q .0),
-        (λ k l.
-            let s = same-true (eqb (mask / 2 ^ k % 2) 1) _ (all-at (rightTest b u o mask) 0 rightCount (q .1) k (omega arith) l) in (
-              (λ i.
-                  let t = both (passesTest b o k) (openTest b u o) (sym s ∙ eq-eqb _ _ i) in
-                  (passes-test (n .good) k l o .0 (t .0), open-test (n .good) u o .0 (t .1))),
-              (λ h. eqb-true _ _ (s ∙ and-true (passes-test (n .good) k l o .1 (h .0)) (open-test (n .good) u o .1 (h .1)))),
-            )),
-      ),
+      mask-test mask (throughTest b u o) _ (λ k l. both-tests _ _ (passes-test g k l o) (open-test g chainLimit u o)) (p .1),
     )
 
 abbrev caseTest : Case → Bool

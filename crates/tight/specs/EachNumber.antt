@@ -1,4 +1,5 @@
--- 01, "Numbers a caller can get", M-100, M-103, M-105, M-106 and M-112: which calls give which numbers. A call gives a number when it does so for some input.
+-- 01, "Numbers a caller can get", M-100, M-103, M-105, M-106, M-111 and M-112: which calls give which numbers. A call gives a number when it does so for
+-- some input.
 use Prim.Native.Nat.{ℕ}
 use mathlib.Core.List.{List, [], _∷_}
 use Rattle.index.specs.Wide.{Sent}
@@ -11,6 +12,7 @@ use Rattle.calendar.specs.declared.Date.{Date}
 use Rattle.calendar.specs.Calls.{DayOf, DateOf, AnniversaryOf, SpanOf}
 use Rattle.appointments.specs.Moves.{Moved}
 use Rattle.appointments.specs.Asking.{Stands, NextChange}
+use Rattle.tight.specs.Limits.{Engine, Promises}
 
 abbrev pub MakeGives : ℕ → Type 0
 MakeGives n = (b : List ℕ) × (b′ : List ℕ) × Makes b (n, b′)
@@ -51,6 +53,16 @@ CheckGives n =
 -- let_through, which both ask first.
 abbrev pub LetsGive : ℕ → Type 0
 LetsGive n = (b : List ℕ) × (u : ℕ) × (o : ℕ) × (mask : ℕ) × LetsThrough b u o (n, mask)
+
+-- ---- M-111: the rights for a chain limit, by one of the engines
+
+abbrev pub EngineGives : Engine → ℕ → Type 0
+EngineGives e n =
+    (b : List ℕ) × (u : ℕ) × (o : ℕ) × (request : ℕ) × (limit : ℕ) × (mask : ℕ) × Promises e b u o request limit (n, mask)
+
+-- Both give the number, whatever the limit is.
+abbrev pub AnyLimitGives : ℕ → Type 0
+AnyLimitGives n = (b : List ℕ) × (u : ℕ) × (o : ℕ) × (request : ℕ) × ((e : Engine) (limit : ℕ) → Promises e b u o request limit (n, 0))
 
 -- ---- M-106: the calls by a directory
 
@@ -124,6 +136,13 @@ checkNumbers = 0 ∷ 1 ∷ 2 ∷ 4 ∷ 5 ∷ 11 ∷ []
 
 abbrev pub letsNumbers : List ℕ
 letsNumbers = 0 ∷ 1 ∷ 2 ∷ 4 ∷ []
+
+-- M-111: "1, 2, 4, 5, then 14": those before 14, and all.
+abbrev pub beforeLimit : List ℕ
+beforeLimit = 1 ∷ 2 ∷ 4 ∷ 5 ∷ []
+
+abbrev pub engineNumbers : List ℕ
+engineNumbers = 0 ∷ 1 ∷ 2 ∷ 4 ∷ 5 ∷ 14 ∷ []
 
 -- M-106: those of the block, and "13", for "the length only".
 abbrev pub directoryNumbers : List ℕ

@@ -191,7 +191,7 @@ impl Block {
 }
 
 /// A question, as C has it.
-type Question = unsafe extern "C" fn(*const u8, usize, u64, u64, u64, u64) -> u64;
+pub(crate) type Question = unsafe extern "C" fn(*const u8, usize, u64, u64, u64, u64) -> u64;
 
 /// The text that a call writes, in a buffer that is made longer until the text fits.
 pub(crate) fn whole_text(write: impl Fn(&mut [u8]) -> Result<usize, Refusal>) -> Result<String, Refusal> {

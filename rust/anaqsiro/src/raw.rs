@@ -1,7 +1,8 @@
 //! The C interface, as `include/anaqsiro.h` declares it. Each call returns the refusal's number times 2^32 plus a value. The
 //! value of `anaqsiro_rights` and `anaqsiro_rights_by` is not the rights alone: [`Held::from_answer`](crate::Held::from_answer)
 //! takes it apart. A length is a number of elements, and those of a directory or a chain are 16 bits wide. A profile is the
-//! number of a [`Profile`](crate::Profile), and any other is refused with 15.
+//! number of a [`Profile`](crate::Profile), and any other is refused with 15. A limit is how many records a chain may have; the value
+//! of `anaqsiro_plain` and `anaqsiro_rights_to` is the rights alone.
 
 #[link(name = "anaqsiro", kind = "static")]
 extern "C" {
@@ -10,6 +11,8 @@ extern "C" {
     pub fn anaqsiro_wide(block: *mut u8, len: usize, message: *const u8, message_len: usize) -> u64;
     pub fn anaqsiro_rights(block: *const u8, len: usize, user: u64, object: u64, request: u64, profile: u64) -> u64;
     pub fn anaqsiro_may(block: *const u8, len: usize, user: u64, object: u64, request: u64, profile: u64) -> u64;
+    pub fn anaqsiro_plain(block: *const u8, len: usize, user: u64, object: u64, request: u64, limit: u64) -> u64;
+    pub fn anaqsiro_rights_to(block: *const u8, len: usize, user: u64, object: u64, request: u64, limit: u64) -> u64;
     pub fn anaqsiro_find_slip(
         block: *const u8,
         len: usize,

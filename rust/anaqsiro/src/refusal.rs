@@ -44,6 +44,10 @@ pub enum Refusal {
     OutsideRange,
     /// 13: the lent directory has the wrong length or is not the block's own.
     DirectoryNotOwn,
+    /// 14: a limit above [`Block::PLAIN_LIMIT`](crate::Block::PLAIN_LIMIT), or more than
+    /// [`Block::PLAIN_MEMBERSHIPS`](crate::Block::PLAIN_MEMBERSHIPS) membership records, for the plain engine; a limit above
+    /// [`Block::LIMIT`](crate::Block::LIMIT).
+    Limit,
     /// 15: a profile other than ordinary or strict. A [`Profile`](crate::Profile) is one of the two, so that no safe call is refused
     /// so; the [C interface](crate::raw), which takes any number, is.
     Profile,
@@ -71,6 +75,7 @@ impl Refusal {
             11 => Refusal::ChainLength,
             12 => Refusal::OutsideRange,
             13 => Refusal::DirectoryNotOwn,
+            14 => Refusal::Limit,
             15 => Refusal::Profile,
             _ => Refusal::Unknown(number),
         })
@@ -92,6 +97,7 @@ impl Refusal {
             Refusal::ChainLength => 11,
             Refusal::OutsideRange => 12,
             Refusal::DirectoryNotOwn => 13,
+            Refusal::Limit => 14,
             Refusal::Profile => 15,
             Refusal::Unknown(number) => number,
         }
@@ -126,6 +132,7 @@ impl fmt::Display for Refusal {
                 "a 257th appointment, a date that is none, or a day, date, term or anniversary outside the range"
             }
             Refusal::DirectoryNotOwn => "the lent directory has the wrong length or is not the block's own",
+            Refusal::Limit => "a limit above 8 or more than 64 membership records for the plain engine; a limit above 32",
             Refusal::Profile => "a profile other than ordinary or strict",
             Refusal::Unknown(_) => "not a number of this version",
         };
@@ -177,8 +184,9 @@ mod tests {
         assert_eq!(answer(11 << 32), Err(Refusal::ChainLength));
         assert_eq!(answer(12 << 32), Err(Refusal::OutsideRange));
         assert_eq!(answer(13 << 32), Err(Refusal::DirectoryNotOwn));
-        assert_eq!(answer(14 << 32 | 5), Err(Refusal::Unknown(14)));
+        assert_eq!(answer(14 << 32), Err(Refusal::Limit));
         assert_eq!(answer(15 << 32), Err(Refusal::Profile));
+        assert_eq!(answer(16 << 32 | 5), Err(Refusal::Unknown(16)));
         assert_eq!(answer(u64::MAX), Err(Refusal::Unknown(u32::MAX)));
     }
 

@@ -1,12 +1,13 @@
-//! Times the library beside the plain program in one run, and prints ratios: bench. ANAQSIRO_NOW and ANAQSIRO_BEFORE name shared
-//! objects of two archives, as `tools/ratios` makes them: the first is then the library, in place of the archive that is linked,
-//! and the second is timed beside it. Their records may have different lengths: each program's blocks are made by its own calls, as
-//! long as its own records want them, and the test of a block is told by the byte too. The calls by a directory have tables of
-//! their own, in which each stands beside the call without it, and so have blocks with markers, for programs that know them, questions
-//! in the strict profile, each beside the same one in the ordinary profile, for programs that have profiles, slips, each beside the
-//! full question, for programs that find and check them, wide messages, each beside its pairs as plain messages, for programs that
-//! take them, and moves of appointments, each beside its changes as plain messages, for programs that have them. All other questions
-//! are asked in the ordinary profile, which is the only one of an archive without profiles.
+//! Times the library beside the plain program in one run, and prints ratios: bench. ANAQSIRO_NOW and ANAQSIRO_BEFORE name
+//! shared objects of two archives, as `tools/ratios` makes them: the first is then the library, in place of the archive that is
+//! linked, and the second is timed beside it. Their records may have different lengths: each program's blocks are made by its
+//! own calls, as long as its own records want them, and the test of a block is told by the byte too. The calls by a directory
+//! have tables of their own, in which each stands beside the call without it, and so have blocks with markers, for programs
+//! that know them, questions in the strict profile, each beside the same one in the ordinary profile, for programs that have
+//! profiles, questions with a limit, each beside the full question, slips, each beside the full question, for programs that
+//! find and check them, wide messages, each beside its pairs as plain messages, for programs that take them, and moves of
+//! appointments, each beside its changes as plain messages, for programs that have them. All other questions are asked in the
+//! ordinary profile, which is the only one of an archive without profiles.
 //!
 //! Each figure is the median over several rounds of some milliseconds of the processor's time; in a round each program does the
 //! same calls, in turn, on a block that its own calls have made. Buffers are warm: each call works on what the call before left.
@@ -25,6 +26,7 @@ use std::ops::Range;
 
 mod appointments;
 mod firms;
+mod limits;
 mod slips;
 mod strict;
 mod wide;
@@ -61,7 +63,7 @@ const FULL: Size = Size(1500, 500, 45, 3);
 
 /// A program that is timed, with its block, the block's directory if the calls go by it, the profile in which it is asked, a buffer
 /// for texts and lists for chains, whether it is to send the pairs of a wide message, or the changes of a move, one by one as plain
-/// messages, and whether it is asked the full question where others are asked about a slip.
+/// messages, and whether it is asked the full question where others are asked about a slip or with a limit.
 struct Runner<'a> {
     library: &'a dyn Library,
     block: Vec<u8>,
@@ -757,6 +759,7 @@ fn main() -> Result<(), String> {
     lookups();
     firms::tables(&mut programs);
     strict::tables(&mut programs);
+    limits::tables(&mut programs);
     slips::tables(&mut programs);
     wide::tables(&mut programs);
     appointments::tables(&mut programs);

@@ -75,6 +75,8 @@ functions! {
     wide = anaqsiro_wide: unsafe extern "C" fn(*mut u8, usize, *const u8, usize) -> u64,
     rights = anaqsiro_rights: unsafe extern "C" fn(*const u8, usize, u64, u64, u64, u64) -> u64,
     may = anaqsiro_may: unsafe extern "C" fn(*const u8, usize, u64, u64, u64, u64) -> u64,
+    plain = anaqsiro_plain: unsafe extern "C" fn(*const u8, usize, u64, u64, u64, u64) -> u64,
+    rights_to = anaqsiro_rights_to: unsafe extern "C" fn(*const u8, usize, u64, u64, u64, u64) -> u64,
     find_slip = anaqsiro_find_slip:
         unsafe extern "C" fn(*const u8, usize, u64, u64, u64, *mut u16, usize, *mut u16, usize) -> u64,
     check_slip = anaqsiro_check_slip:
@@ -119,6 +121,14 @@ impl Library for Archive {
 
     fn may(&self, block: &[u8], user: u64, object: u64, request: u64, profile: u64) -> u64 {
         unsafe { (self.may)(block.as_ptr(), block.len(), user, object, request, profile) }
+    }
+
+    fn plain(&self, block: &[u8], user: u64, object: u64, request: u64, limit: u64) -> u64 {
+        unsafe { (self.plain)(block.as_ptr(), block.len(), user, object, request, limit) }
+    }
+
+    fn rights_to(&self, block: &[u8], user: u64, object: u64, request: u64, limit: u64) -> u64 {
+        unsafe { (self.rights_to)(block.as_ptr(), block.len(), user, object, request, limit) }
     }
 
     fn find_slip(&self, block: &[u8], user: u64, object: u64, right: u64, hers: &mut [u16], its: &mut [u16]) -> u64 {

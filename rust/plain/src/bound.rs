@@ -48,10 +48,15 @@ impl Names {
 }
 
 /// Whether the object is open to the user: she is not bound, or it is in no group, or it leads to a group of hers.
-#[inline(never)]
 pub fn open(memberships: &[Record], look: &impl Look, user: usize, object: usize) -> bool {
+    open_within(memberships, look, user, object, CHAIN)
+}
+
+/// The same, over chains of at most so many records.
+#[inline(never)]
+pub fn open_within(memberships: &[Record], look: &impl Look, user: usize, object: usize, most: usize) -> bool {
     let (mut hers, mut bound) = ([false; NAMES], false);
-    Names::new(user).go(memberships, look, CHAIN, |record| {
+    Names::new(user).go(memberships, look, most, |record| {
         let markers = markers(record);
         let free = member(record) && markers & !X == 0;
         if free && markers & X != 0 {
@@ -65,7 +70,7 @@ pub fn open(memberships: &[Record], look: &impl Look, user: usize, object: usize
         return true;
     }
     let mut found = false;
-    Names::new(object).go(memberships, look, CHAIN, |record| {
+    Names::new(object).go(memberships, look, most, |record| {
         let leads = member(record);
         found = leads && hers[word(record, ID) % NAMES];
         (!found).then_some(leads)

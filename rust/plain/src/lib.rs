@@ -9,12 +9,14 @@ mod appointments;
 mod bound;
 mod calendar;
 mod directory;
+mod limits;
 mod slips;
 mod wide;
 
 pub use appointments::{move_to, next_change, stands, APPOINTMENT, MOST as APPOINTMENTS};
 pub use calendar::{date, day};
 pub use directory::{directory, may_by, message_by, read_by, rights_by, wide_by, write_by, ENTRIES};
+pub use limits::{plain, rights_to};
 pub use slips::{check_slip, find_slip, LONGEST as SLIP};
 pub use wide::{wide, LIST};
 
@@ -884,6 +886,14 @@ impl Library for Plain {
 
     fn may(&self, block: &[u8], user: u64, object: u64, request: u64, profile: u64) -> u64 {
         both(may(block, user, object, request, profile))
+    }
+
+    fn plain(&self, block: &[u8], user: u64, object: u64, request: u64, limit: u64) -> u64 {
+        both(plain(block, user, object, request, limit))
+    }
+
+    fn rights_to(&self, block: &[u8], user: u64, object: u64, request: u64, limit: u64) -> u64 {
+        both(rights_to(block, user, object, request, limit))
     }
 
     fn find_slip(&self, block: &[u8], user: u64, object: u64, right: u64, hers: &mut [u16], its: &mut [u16]) -> u64 {

@@ -39,9 +39,15 @@ pub const RULE: Rule = Rule {
 };
 
 impl Rule {
-    /// The groups that are hers.
+    /// The rule for chains of at most so many records.
+    pub fn within(self, limit: usize) -> Rule {
+        Rule { most: limit, most_of_object: limit, ..self }
+    }
+
+    /// The groups that are hers. Her chain has a record at least, the last one: where it may have none, no group is.
     pub fn hers(&self, memberships: &Part, user: u16) -> BTreeSet<u16> {
-        let names = led(memberships, user, self.most - 1, self.before);
+        let Some(before) = self.most.checked_sub(1) else { return BTreeSet::new() };
+        let names = led(memberships, user, before, self.before);
         let last = memberships.iter().filter(|((key, _), counts)| names.contains(key) && (self.last)(counts));
         last.map(|((_, id), _)| *id).collect()
     }

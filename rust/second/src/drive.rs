@@ -17,6 +17,7 @@ mod appointments;
 mod by;
 mod days;
 mod history;
+mod limits;
 mod lists;
 mod markers;
 mod moves;
@@ -35,6 +36,8 @@ pub trait Library {
     fn wide(&self, block: &mut [u8], message: &[u8]) -> u64;
     fn rights(&self, block: &[u8], user: u64, object: u64, request: u64, profile: u64) -> u64;
     fn may(&self, block: &[u8], user: u64, object: u64, request: u64, profile: u64) -> u64;
+    fn plain(&self, block: &[u8], user: u64, object: u64, request: u64, limit: u64) -> u64;
+    fn rights_to(&self, block: &[u8], user: u64, object: u64, request: u64, limit: u64) -> u64;
     fn find_slip(&self, block: &[u8], user: u64, object: u64, right: u64, hers: &mut [u16], its: &mut [u16]) -> u64;
     fn check_slip(&self, block: &[u8], user: u64, object: u64, right: u64, hers: &[u16], its: &[u16]) -> u64;
     fn write(&self, block: &[u8], kind: u64, key: u64, out: &mut [u8]) -> u64;
@@ -210,24 +213,31 @@ const TO_MEET: &[(&str, &str, &[i64])] = &[
     ("count", "number too great, that names a record by its last bits", &[16, 32]),
 ];
 
-/// The lines of `TO_MEET`, those of wide messages, those of the markers, those of the profiles, those of slips, those of the calls by
-/// a directory, and those of appointments.
+/// The lines of `TO_MEET`, those of wide messages, those of the markers, those of the profiles, those of limits, those of slips, those
+/// of the calls by a directory, and those of appointments.
 fn to_meet() -> impl Iterator<Item = (&'static str, &'static str, &'static [i64])> {
     let appointments = [days::TO_MEET, lists::TO_MEET, appointments::TO_MEET, moves::TO_MEET, history::TO_MEET].concat();
-    let questions = [markers::TO_MEET, profiles::TO_MEET, slips::TO_MEET].concat();
+    let questions = [markers::TO_MEET, profiles::TO_MEET, limits::TO_MEET, slips::TO_MEET].concat();
     let more = [wide::TO_MEET, &questions, by::TO_MEET, &appointments].concat().into_iter();
     let more = more.flat_map(|(calls, what, all)| calls.iter().map(move |&call| (call, what, all)));
     TO_MEET.iter().copied().chain(more)
 }
 
-/// How often a run met what.
+/// How often a run met what. One about limits alone is to meet the lines of these alone.
 #[derive(Default)]
 pub struct Tally {
     pub calls: u64,
     met: BTreeMap<(&'static str, &'static str, i64), u64>,
+    limits: bool,
 }
 
 impl Tally {
+    /// The lines that the run is to meet.
+    fn to_meet(&self) -> impl Iterator<Item = (&'static str, &'static str, &'static [i64])> {
+        let limits = self.limits;
+        to_meet().filter(move |(call, ..)| !limits || limits::EACH.contains(call))
+    }
+
     fn saw(&mut self, call: &'static str, what: &'static str, which: i64) {
         *self.met.entry((call, what, which)).or_default() += 1;
     }
@@ -238,12 +248,13 @@ impl Tally {
             let one = |&n: &i64| format!("{n}: {}", self.met.get(&(call, what, n)).unwrap_or(&0));
             format!("{call}, {what} {}", all.iter().map(one).collect::<Vec<_>>().join(", "))
         };
-        to_meet().map(counted).collect()
+        self.to_meet().map(counted).collect()
     }
 
     /// Fails where something was not met, or something was met that no call may give.
     pub fn complete(&self) -> Result<(), String> {
-        let wanted: BTreeSet<_> = to_meet().flat_map(|(call, what, all)| all.iter().map(move |&n| (call, what, n))).collect();
+        let wanted: BTreeSet<_> =
+            self.to_meet().flat_map(|(call, what, all)| all.iter().map(move |&n| (call, what, n))).collect();
         let met = self.met.keys().copied().collect();
         let told = |what: &str, keys: BTreeSet<(&str, &str, i64)>| {
             keys.into_iter().map(|(call, respect, n)| format!("{what}: {call}, {respect} {n}")).collect::<Vec<_>>()
@@ -300,7 +311,7 @@ const PLAIN: Form = Form {
     lib: |lib, b, m| lib.message(b, m),
     second_by: crate::message_by,
     lib_by: |lib, b, d, m| lib.message_by(b, d, m),
-    read: crate::plain,
+    read: crate::plain_message,
     saw: |call, number, _, after| call.saw_plain(number, after),
 };
 
@@ -924,23 +935,38 @@ fn one_case(lib: &dyn Library, rng: &mut Rng, tally: &mut Tally) -> Result<(), S
     case.one_with_a_fault(&CALLS)
 }
 
-/// The same, and every eighth time a block and calls of slips after it.
-fn one_and_slips(lib: &dyn Library, rng: &mut Rng, tally: &mut Tally) -> Result<(), String> {
+/// The same, and every eighth time a block and calls of slips after it, and every fourth time one and calls of limits.
+fn one_and_more(lib: &dyn Library, rng: &mut Rng, tally: &mut Tally) -> Result<(), String> {
     one_case(lib, rng, tally)?;
     if rng.one_in(8) {
         slips::case(lib, rng, tally)?;
     }
+    if rng.one_in(4) {
+        limits::case(lib, rng, tally)?;
+    }
     Ok(())
 }
 
-/// Runs the cases; the first disagreement, with what leads to it, ends the run.
-pub fn run(lib: &dyn Library, cases: u64, seed: u64) -> Result<Tally, String> {
-    let mut tally = Tally::default();
+/// How the calls of one case are made.
+type Made = fn(&dyn Library, &mut Rng, &mut Tally) -> Result<(), String>;
+
+/// Runs cases that are made so; the first disagreement, with what leads to it, ends the run.
+fn run_all(lib: &dyn Library, cases: u64, seed: u64, made: Made, mut tally: Tally) -> Result<Tally, String> {
     for case in 0..cases {
         let mut rng = Rng(seed.wrapping_mul(1 << 32).wrapping_add(case));
-        one_and_slips(lib, &mut rng, &mut tally).map_err(|what| format!("seed {seed}, case {case}: {what}"))?;
+        made(lib, &mut rng, &mut tally).map_err(|what| format!("seed {seed}, case {case}: {what}"))?;
     }
     Ok(tally)
+}
+
+/// Runs the cases.
+pub fn run(lib: &dyn Library, cases: u64, seed: u64) -> Result<Tally, String> {
+    run_all(lib, cases, seed, one_and_more, Tally::default())
+}
+
+/// Runs cases of limits alone.
+pub fn run_limits(lib: &dyn Library, cases: u64, seed: u64) -> Result<Tally, String> {
+    run_all(lib, cases, seed, limits::case, Tally { limits: true, ..Tally::default() })
 }
 
 /// Reads every text of `TRIED`, as a set of each kind, into a block that has no room for a record: how many reads.

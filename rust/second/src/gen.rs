@@ -8,6 +8,7 @@ use std::collections::BTreeMap;
 pub mod appointments;
 mod denials;
 mod firms;
+pub mod limits;
 pub mod slips;
 mod wide;
 
@@ -125,7 +126,7 @@ pub fn index(rng: &mut Rng) -> Index {
         insert(rng, &mut index, from);
     }
     if rng.one_in(3) {
-        firms(rng, &mut index);
+        firms(rng, &mut index, firms::records);
     } else if rng.one_in(4) {
         chain(rng, &mut index);
     }

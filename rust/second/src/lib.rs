@@ -15,16 +15,18 @@ pub mod drive;
 mod examined;
 pub mod gen;
 mod growth;
+mod limits;
 mod sides;
 mod slips;
 mod wide;
 
 pub use appointments::{move_to, next_change, stands, Appointment};
-use barred::BAR;
+use barred::{Bar, BAR};
 use bound::{member, RULE};
 pub use calendar::{date, day};
 pub use directory::{directory, may_by, message_by, read_by, rights_by, wide_by, write_by, ENTRIES, PART_ENTRIES};
 use examined::examined;
+pub use limits::{plain, rights_to};
 pub use slips::{check_slip, find_slip, Slip};
 pub use wide::{wide, Lists, Wide, LIST, WIDE};
 
@@ -261,7 +263,7 @@ struct Said {
 /// How a message is read: what it says, or 3.
 type Reading = fn(&[u8]) -> Result<Said, u32>;
 
-fn plain(message: &[u8]) -> Result<Said, u32> {
+fn plain_message(message: &[u8]) -> Result<Said, u32> {
     if message.len() != MESSAGE {
         return Err(3);
     }
@@ -335,7 +337,7 @@ fn sent(block: &[u8], message: &[u8], read: Reading) -> (u32, Vec<u8>) {
 
 /// message: the number, and the block then.
 pub fn message(block: &[u8], message: &[u8]) -> (u32, Vec<u8>) {
-    sent(block, message, plain)
+    sent(block, message, plain_message)
 }
 
 fn carries(counts: &Counts, right: usize) -> bool {
@@ -394,8 +396,10 @@ fn granted(index: &Index, user: u16, object: u16, right: usize, limit: usize) ->
     meets(index, user, object, right, limit, carries)
 }
 
-fn holds(index: &Index, user: u16, object: u16, right: usize) -> bool {
-    passes(index, object, right) && granted(index, user, object, right, CHAIN) && RULE.open(&index.parts[M], user, object)
+/// Whether a right is held, over chains of at most `limit` records. The filters know no limit.
+fn holds(index: &Index, user: u16, object: u16, right: usize, limit: usize) -> bool {
+    let open = || RULE.within(limit).open(&index.parts[M], user, object);
+    passes(index, object, right) && granted(index, user, object, right, limit) && open()
 }
 
 /// A name that the caller gave.
@@ -423,11 +427,12 @@ fn question(block: &[u8], user: u64, object: u64, request: u64, profile: u64) ->
     }
 }
 
-/// The rights that a user holds on an object, of those requested: in the strict profile those that nothing bars.
-fn held(Question { index, names, strict }: &Question, request: u64) -> u32 {
-    let [user, object] = *names;
-    let held = (0..RIGHTS).filter(|&right| holds(index, user, object, right));
-    let kept = held.filter(|&right| !(*strict && BAR.bars(index, *names, right)));
+/// The rights that a user holds on an object, of those requested, over chains of at most `limit` records: in the strict profile those
+/// that nothing bars.
+fn held(Question { index, names, strict }: &Question, request: u64, limit: usize) -> u32 {
+    let ([user, object], bar) = (*names, Bar { most: [limit; 2], ..BAR });
+    let held = (0..RIGHTS).filter(|&right| holds(index, user, object, right, limit));
+    let kept = held.filter(|&right| !(*strict && bar.bars(index, *names, right)));
     kept.map(|right| 1 << right).sum::<u32>() & request as u32
 }
 
@@ -437,7 +442,7 @@ pub fn rights(block: &[u8], user: u64, object: u64, request: u64, profile: u64) 
         Ok(question) => {
             let numbers = question.names.map(|start| examined(&question.index.parts[M], start));
             let above: u32 = numbers.iter().zip(EXAMINED).map(|(number, at)| number << at).sum();
-            (0, held(&question, request) + above)
+            (0, held(&question, request, CHAIN) + above)
         }
         Err(number) => (number, 0),
     }
@@ -451,7 +456,7 @@ fn numbers(value: u32) -> [u32; 2] {
 /// The short question: the number, and 1 for yes or 0 for no.
 pub fn may(block: &[u8], user: u64, object: u64, request: u64, profile: u64) -> (u32, u32) {
     match question(block, user, object, request, profile) {
-        Ok(question) => (0, (u64::from(held(&question, request)) == request).into()),
+        Ok(question) => (0, (u64::from(held(&question, request, CHAIN)) == request).into()),
         Err(number) => (number, 0),
     }
 }
@@ -635,6 +640,8 @@ pub fn standing(input: &[u8]) -> Vec<u8> {
 
 #[cfg(test)]
 mod appointed;
+#[cfg(test)]
+mod limited;
 #[cfg(test)]
 mod marked;
 #[cfg(test)]

@@ -255,7 +255,7 @@ fn denials_decide_often() {
             let (user, object) = gen::question(&mut rng, &index);
             let [Ok(user), Ok(object)] = [user, object].map(name_of) else { continue };
             asked += 1;
-            let held: Vec<usize> = (0..RIGHTS).filter(|&right| holds(&index, user, object, right)).collect();
+            let held: Vec<usize> = (0..RIGHTS).filter(|&right| holds(&index, user, object, right, CHAIN)).collect();
             match held.iter().filter(|&&right| BAR.bars(&index, [user, object], right)).count() {
                 _ if held.is_empty() => {}
                 0 => none += 1,

@@ -8,6 +8,8 @@ use Rattle.rights.specs.declared.Rights.{Rights}
 use Rattle.rights.specs.declared.Rights.the-variants as rights
 use Rattle.rights.specs.declared.Answer.{Answer}
 use Rattle.rights.specs.declared.Answer.the-variants as answer
+use Rattle.rights.specs.declared.Given.{Given}
+use Rattle.rights.specs.declared.Given.the-variants as given
 use Rattle.slips.specs.declared.Sought.{Sought}
 use Rattle.slips.specs.declared.Sought.the-variants as sought
 use Rattle.calendar.specs.declared.DayNumber.{DayNumber}
@@ -36,6 +38,12 @@ abbrev pub AnswerAs : Answer → ℕ → Type 0
 AnswerAs answer.Yes r = Packed 0 1 r
 AnswerAs answer.No r = Packed 0 0 r
 AnswerAs (answer.Refused n) r = Packed n 0 r
+
+-- ---- rights alone
+
+abbrev pub GivenAs : Given → ℕ → Type 0
+GivenAs (given.Mask mask) r = Packed 0 mask r
+GivenAs (given.Refused n) r = Packed n 0 r
 
 -- ---- a set written
 

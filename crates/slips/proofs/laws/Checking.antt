@@ -12,9 +12,9 @@ use Rattle.index.proofs.laws.block.Masks.{four}
 use Rattle.rights.specs.declared.Answer.the-variants as answer
 use Rattle.rights.specs.Groups.{Open}
 use Rattle.rights.specs.Held.{Passes, chainLimit}
-use Rattle.rights.specs.declared.Through.the-variants as through
+use Rattle.rights.specs.declared.Given.the-variants as given
 use Rattle.rights.specs.Through.{throughNeeds, ThroughAnswers}
-use Rattle.rights.proofs.laws.questions.Asking.{positive}
+use Rattle.rights.proofs.laws.questions.Requiring.{positive}
 use Rattle.rights.proofs.laws.questions.Letting.{Named, all-named, through-refused}
 use Rattle.slips.specs.Slip.{Slip}
 use Rattle.slips.specs.Calls.{OneRight, IsChain, checkNeeds, Judged, ChecksSlip, CheckAnswers}
@@ -68,7 +68,7 @@ module _ (b : List ℕ) (u o right : ℕ) (us os : List ℕ) (named : Named b u 
         (refl, (omega arith), ((λ e. absurd (omega arith)), (λ p. absurd (none (for-right (λ k. Slip b u o k us os) w (all .1 .0) .0 p)))))
 
 -- Refused for the block, the user or the object.
-pub check-unnamed : (b : List ℕ) (u o right : ℕ) (us os : List ℕ) (n : ℕ) → ThroughAnswers b u o (through.Refused n)
+pub check-unnamed : (b : List ℕ) (u o right : ℕ) (us os : List ℕ) (n : ℕ) → ThroughAnswers b u o (given.Refused n)
     → CheckAnswers b u o right us os (answer.Refused n)
 unfolding CheckAnswers ChecksSlip checkNeeds ThroughAnswers
 check-unnamed b u o right us os n t = (t .0, through-refused b u o (λ n. (n, 0)) (restNeeds right us os) (Judged b u o right us os) n t)

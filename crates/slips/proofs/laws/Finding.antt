@@ -135,7 +135,7 @@ module _ {b : List ℕ} (good : Good b) {u o k : ℕ} (right : k < rightCount) {
       one-less w l n = omega (arith, walked good w (names-chain l n) (omega (arith, n .few)), n .some)
 
   -- Where no P record is reached, the right is not held.
-  pub not-held : Granted b k us os grant.Nowhere → Holds b u o k → ⊥
+  pub not-held : Granted b k us os grant.Nowhere → Holds chainLimit b u o k → ⊥
   unfolding Granted
   not-held none h =
       let (xs, ys, p) = holds-slip h in

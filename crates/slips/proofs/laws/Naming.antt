@@ -66,7 +66,7 @@ module _ {Link : ℕ → ℕ → Type 0} where
 -- ---- a slip, and what is held
 
 module _ {b : List ℕ} {u o k : ℕ} where
-  pub slip-holds : {us os : List ℕ} → Slip b u o k us os → Holds b u o k
+  pub slip-holds : {us os : List ℕ} → Slip b u o k us os → Holds chainLimit b u o k
   slip-holds {us} {os} p = record {
     s = last us;
     g = last os;
@@ -79,7 +79,7 @@ module _ {b : List ℕ} {u o k : ℕ} where
       longer : {x : ℕ} {l : List ℕ} → Names (Carries b k) x l → Chain (Carries b k) chainLimit x (last l)
       longer {l = l} n = chain-most (names-chain l n) (omega (arith, n .few))
 
-  pub holds-slip : Holds b u o k → (us : List ℕ) × (os : List ℕ) × Slip b u o k us os
+  pub holds-slip : Holds chainLimit b u o k → (us : List ℕ) × (os : List ℕ) × Slip b u o k us os
   holds-slip h =
       let (us, user, s) = chain-names (h .reached .user-chain) (omega arith) in
       let (os, object, g) = side (h .reached .object-chain) in

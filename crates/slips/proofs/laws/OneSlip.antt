@@ -6,7 +6,7 @@ use mathlib.Core.Logic.{_⊎_, inl, inr}
 use native.Mathlib.Omega.{arith}
 use Rattle.index.proofs.laws.OneFirst.{one-first, both-first}
 use Rattle.rights.specs.declared.Answer.{Answer}
-use Rattle.rights.specs.Held.{Holds}
+use Rattle.rights.specs.Held.{Holds, chainLimit}
 use Rattle.rights.proofs.laws.questions.OneAnswer.{one-yes, answer-once}
 use Rattle.slips.specs.Slip.{Slip}
 use Rattle.slips.specs.Calls.{ForRight, checkNeeds, Judged, ChecksSlip, CheckAnswers, Outcome, findNeeds, Found, NoneFound, FindsSlip}
@@ -24,7 +24,7 @@ module _ (b : List ℕ) (u o right : ℕ) (us os : List ℕ) where
 
   -- ---- the finder
 
-  found-holds : (a : Outcome) → Found b u o right us os a → ForRight right (Holds b u o)
+  found-holds : (a : Outcome) → Found b u o right us os a → ForRight right (Holds chainLimit b u o)
   found-holds a (xs, ys, (k, h, e, p), q) = (k, h, e, slip-holds (p .slip))
 
   -- Two answers to one call are the same, or both are slips.

@@ -7,10 +7,10 @@ use native.Mathlib.Omega.{arith}
 use lib.ListN.{length}
 use Rattle.index.specs.Numbers.{Answers}
 use Rattle.index.proofs.laws.Firsts.{All, passed, refuses, passed-first, first-all}
-use Rattle.rights.specs.declared.Through.the-variants as through
-use Rattle.rights.specs.Held.{Holds}
+use Rattle.rights.specs.declared.Given.the-variants as given
+use Rattle.rights.specs.Held.{Holds, chainLimit}
 use Rattle.rights.specs.Through.{throughNeeds, ThroughAnswers}
-use Rattle.rights.proofs.laws.questions.Asking.{positive}
+use Rattle.rights.proofs.laws.questions.Requiring.{positive}
 use Rattle.rights.proofs.laws.questions.Letting.{Named, all-named, through-refused}
 use Rattle.slips.specs.declared.Sought.{Sought}
 use Rattle.slips.specs.declared.Sought.the-variants as sought
@@ -33,7 +33,7 @@ module _ (b : List ℕ) (u o right : ℕ) (us os : List ℕ) where
   Either a = Found b u o right us os a ⊎ NoneFound b u o right us os a
 
   -- Refused for the block, the user or the object.
-  pub find-unnamed : (n : ℕ) → ThroughAnswers b u o (through.Refused n) → FindAnswers b u o right us os (sought.Refused n) us os
+  pub find-unnamed : (n : ℕ) → ThroughAnswers b u o (given.Refused n) → FindAnswers b u o right us os (sought.Refused n) us os
   unfolding FindAnswers FindsSlip findNeeds ThroughAnswers
   find-unnamed n t = (t .0, through-refused b u o refusal more Either n t)
 
@@ -58,5 +58,5 @@ module _ (b : List ℕ) (u o right : ℕ) (us os : List ℕ) where
       find-accepted us′ os′ sought.None p = accepted (0, 0, 0, us′, os′) p
       find-accepted us′ os′ (sought.Refused n) p = (p .0, accepted (n, 0, 0, us′, os′) (p .1))
 
-      pub find-none : (ForRight right (Holds b u o) → ⊥) → FindAnswers b u o right us os sought.None us os
+      pub find-none : (ForRight right (Holds chainLimit b u o) → ⊥) → FindAnswers b u o right us os sought.None us os
       find-none none = find-accepted us os sought.None (inr (none, refl))

@@ -17,7 +17,7 @@ use Rattle.index.proofs.laws.Firsts.{All, first-passed, first-sure}
 use Rattle.index.proofs.laws.block.Masks.{four, in-power, mask-covers}
 use Rattle.index.proofs.laws.message.Packing.{at-each}
 use Rattle.directory.proofs.Numbered.{id-name}
-use Rattle.rights.specs.Held.{Carries, Holds}
+use Rattle.rights.specs.Held.{Carries, Holds, chainLimit}
 use Rattle.rights.specs.Profiles.{ordinary, IsProfile, HoldsIn, profileOf}
 use Rattle.rights.specs.Questions.{questionNeeds, Limited, Reports, unreported, Full}
 use Rattle.rights.specs.Through.{throughNeeds}
@@ -43,7 +43,7 @@ module _ (b : List ℕ) (u o right : ℕ) where
         some = four (λ k. right ≡ 2 ^ k → 1 ≤ right) (λ e. omega arith) (λ e. omega arith) (λ e. omega arith) (λ e. omega arith)
 
     -- It answers the right just when it is held.
-    full-held : (c : ℕ × ℕ × ℕ × ℕ) → Full b u o right ordinary c → (c .0 ≡ 0) × ((c .1 ≡ right) ↔ ForRight right (Holds b u o))
+    full-held : (c : ℕ × ℕ × ℕ × ℕ) → Full b u o right ordinary c → (c .0 ≡ 0) × ((c .1 ≡ right) ↔ ForRight right (Holds chainLimit b u o))
     unfolding Full Limited HoldsIn profileOf
     full-held c f =
         let r = first-sure unreported (Reports (profileOf ordinary) b u o right) c (questionNeeds b u o right ordinary) asked f in
@@ -55,8 +55,8 @@ module _ (b : List ℕ) (u o right : ℕ) where
           ),
         )
       where
-        held : ForRight right (Holds b u o) → (j : ℕ) → j ≡ one .0 → Holds b u o j
-        held p j e = rw e (for-right (Holds b u o) (right-of-one one) one .0 p)
+        held : ForRight right (Holds chainLimit b u o) → (j : ℕ) → j ≡ one .0 → Holds chainLimit b u o j
+        held p j e = rw e (for-right (Holds chainLimit b u o) (right-of-one one) one .0 p)
 
   -- ---- what an accepted call says
 
@@ -88,11 +88,11 @@ module _ (b : List ℕ) (u o right : ℕ) where
         let held = full-held named one c full in
         (held .0, ((λ l. held .1 .1 (shown l sought)), (λ q. some (held .1 .0 q) sought)))
       where
-        shown : 0 < a .1 → Found b u o right us os a ⊎ NoneFound b u o right us os a → ForRight right (Holds b u o)
+        shown : 0 < a .1 → Found b u o right us os a ⊎ NoneFound b u o right us os a → ForRight right (Holds chainLimit b u o)
         shown l (inl (xs, ys, (k, h, q, p), w)) = (k, h, q, slip-holds (p .slip))
         shown l (inr p) = absurd (omega (arith, ap (λ (a : Outcome). a .1) (p .1)))
 
-        some : ForRight right (Holds b u o) → Found b u o right us os a ⊎ NoneFound b u o right us os a → 0 < a .1
+        some : ForRight right (Holds chainLimit b u o) → Found b u o right us os a ⊎ NoneFound b u o right us os a → 0 < a .1
         some h (inl (xs, ys, (k, l, q, p), w)) = omega (arith, ap (λ (a : Outcome). a .1) w, p .slip .user-names .some)
         some h (inr p) = absurd (p .0 h)
 

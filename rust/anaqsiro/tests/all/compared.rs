@@ -113,6 +113,22 @@ impl Library for Safe {
         }
     }
 
+    fn plain(&self, block: &[u8], user: u64, object: u64, request: u64, limit: u64) -> u64 {
+        let safe = Block::from_bytes(block.to_vec());
+        match Rights::from_mask(request) {
+            Some(request) => packed(safe.rights_plain(user, object, request, limit).map(|rights| rights.mask().into())),
+            None => unsafe { raw::anaqsiro_plain(block.as_ptr(), block.len(), user, object, request, limit) },
+        }
+    }
+
+    fn rights_to(&self, block: &[u8], user: u64, object: u64, request: u64, limit: u64) -> u64 {
+        let safe = Block::from_bytes(block.to_vec());
+        match Rights::from_mask(request) {
+            Some(request) => packed(safe.rights_to(user, object, request, limit).map(|rights| rights.mask().into())),
+            None => unsafe { raw::anaqsiro_rights_to(block.as_ptr(), block.len(), user, object, request, limit) },
+        }
+    }
+
     fn find_slip(&self, block: &[u8], user: u64, object: u64, right: u64, hers: &mut [u16], its: &mut [u16]) -> u64 {
         let safe = Block::from_bytes(block.to_vec());
         match Rights::from_mask(right).filter(|_| hers.len().min(its.len()) >= Slip::LONGEST) {

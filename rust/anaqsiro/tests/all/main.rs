@@ -9,6 +9,7 @@ mod directed;
 mod examined;
 mod ledgers;
 mod letters;
+mod limits;
 mod messages;
 mod profiles;
 mod rosters;

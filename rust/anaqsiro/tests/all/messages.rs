@@ -10,20 +10,24 @@ fn refusal(number: u32, value: u32) -> Option<Refusal> {
 
 #[test]
 fn every_refusal_has_its_number() {
-    for number in (1..=13).chain([15]) {
+    for number in 1..=15 {
         let named = refusal(number, 0).expect("a refusal");
         assert_eq!(named.number(), number);
         assert!(!matches!(named, Refusal::Unknown(_)));
         assert_eq!(refusal(number, 3) == Some(named), number != 9, "of a text alone the value is told");
     }
     assert_eq!([refusal(0, 0), refusal(0, 9)], [None, None]);
-    for number in [14, 16, u32::MAX] {
+    for number in [16, 17, u32::MAX] {
         assert_eq!(refusal(number, 7), Some(Refusal::Unknown(number)));
         assert_eq!(Refusal::Unknown(number).number(), number);
     }
     assert_eq!(
         Refusal::NoRoom.to_string(),
         "refused with 8: after taking away (or removing the old set), the records do not fit"
+    );
+    assert_eq!(
+        Refusal::Limit.to_string(),
+        "refused with 14: a limit above 8 or more than 64 membership records for the plain engine; a limit above 32"
     );
     assert_eq!(Refusal::Profile.to_string(), "refused with 15: a profile other than ordinary or strict");
     assert_eq!(Refusal::Unknown(99).to_string(), "refused with 99: not a number of this version");
@@ -46,6 +50,8 @@ fn the_words_have_the_numbers_of_the_crate() {
         (Refusal::CountFull, format!("at {}", with_comma(u16::MAX.into()))),
         (Refusal::TextLong, format!("fewer than {} places", Slip::LONGEST)),
         (Refusal::ChainLength, format!("more than {} names", Slip::LONGEST)),
+        (Refusal::Limit, format!("above {} or more than {} ", Block::PLAIN_LIMIT, Block::PLAIN_MEMBERSHIPS)),
+        (Refusal::Limit, format!("a limit above {}", Block::LIMIT)),
         (Refusal::OutsideRange, format!("a {}th appointment,", Appointments::MOST + 1)),
     ] {
         assert!(refusal.to_string().contains(&words), "{refusal}, and not {words}");

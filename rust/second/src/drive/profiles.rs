@@ -222,7 +222,8 @@ impl Call<'_> {
             return;
         }
         let names = q.names();
-        let granted: Vec<usize> = letters(q.request & ALL).filter(|&right| holds(index, names[0], names[1], right)).collect();
+        let granted: Vec<usize> =
+            letters(q.request & ALL).filter(|&right| holds(index, names[0], names[1], right, CHAIN)).collect();
         let barred = granted.iter().filter(|&right| value >> right & 1 == 0).count();
         if !granted.is_empty() {
             let which = i64::from(barred > 0) + i64::from(barred == granted.len());

@@ -205,7 +205,7 @@ impl Call<'_> {
     fn judge(&mut self, lent: &Slip, found: Option<Slip>) -> Result<(), String> {
         let index = index_of(self.block);
         let asked = judged(&index, lent);
-        if holds(&index, asked.names[0], asked.names[1], asked.right) != found.is_some() {
+        if holds(&index, asked.names[0], asked.names[1], asked.right, CHAIN) != found.is_some() {
             return Err(format!("find_slip {}: a slip is found where the right is not held, or none where it is", told(lent)));
         }
         self.saw_places(lent);
@@ -438,7 +438,7 @@ impl Call<'_> {
     fn saw_no(&mut self, slip: &Judged) {
         let [user, object] = slip.names;
         self.saw("no", 1 << slip.right);
-        self.saw("no though the right is not held, or though it is", holds(slip.index, user, object, slip.right).into());
+        self.saw("no though the right is not held, or though it is", holds(slip.index, user, object, slip.right, CHAIN).into());
         if (Judged { chains: [slip.chains[1], slip.chains[0]], ..*slip }).right() {
             self.saw("no, and right if the chains changed places", 1);
         }

@@ -9,8 +9,8 @@ const ITS: u16 = 300;
 const ELSEWHERE: u16 = 500;
 const NEUTRAL: u16 = 600;
 
-/// How many records a chain has: few, or about as many as one may have.
-fn records(rng: &mut Rng) -> u16 {
+/// How many records a chain has, one at least: few, or about as many as one may have.
+pub fn records(rng: &mut Rng) -> u16 {
     let most = CHAIN as u16;
     if rng.one_in(3) {
         rng.pick(&[most - 1, most, most, most + 1, most + 1])
@@ -25,7 +25,7 @@ fn membership(rng: &mut Rng) -> Counts {
 }
 
 /// Takes all letters out of a record, so that it has markers alone.
-fn strip(rng: &mut Rng, counts: &mut Counts) {
+pub fn strip(rng: &mut Rng, counts: &mut Counts) {
     counts[..MARKERS.start].fill(0);
     if counts[MARKERS].iter().all(|&count| count == 0) {
         counts[rng.pick(&[X, N])] = 1;
@@ -43,8 +43,8 @@ fn put(index: &mut Index, start: u16, first: u16, last: u16, chain: &[Counts]) {
 }
 
 /// The chain from the user to her group. X stands in the last record; in every other chain something is different.
-fn to_her_group(rng: &mut Rng) -> Vec<Counts> {
-    let mut chain: Vec<Counts> = (0..records(rng)).map(|_| membership(rng)).collect();
+fn to_her_group(rng: &mut Rng, records: u16) -> Vec<Counts> {
+    let mut chain: Vec<Counts> = (0..records).map(|_| membership(rng)).collect();
     let (any, last) = (rng.below(chain.len() as u64) as usize, chain.len() - 1);
     chain[last][X] = 1;
     match rng.below(12) {
@@ -62,8 +62,8 @@ fn to_her_group(rng: &mut Rng) -> Vec<Counts> {
 }
 
 /// The chain from the object, with markers that have no part in it. In every third chain one record has markers alone.
-fn from_object(rng: &mut Rng) -> Vec<Counts> {
-    let mut chain: Vec<Counts> = (0..records(rng)).map(|_| membership(rng)).collect();
+fn from_object(rng: &mut Rng, records: u16) -> Vec<Counts> {
+    let mut chain: Vec<Counts> = (0..records).map(|_| membership(rng)).collect();
     let any = rng.below(chain.len() as u64) as usize;
     if rng.one_in(2) {
         letters((1 + rng.below(3)) << MARKERS.start).for_each(|k| chain[any][k] = 1);
@@ -75,10 +75,11 @@ fn from_object(rng: &mut Rng) -> Vec<Counts> {
 }
 
 /// The user stands where chains start, the object on the other side. Her group may be name 0, or the object itself, and the object
-/// may lead to her in the place of her group.
-pub fn firms(rng: &mut Rng, index: &mut Index) {
+/// may lead to her in the place of her group. The chains have so many records.
+pub fn firms(rng: &mut Rng, index: &mut Index, records: fn(&mut Rng) -> u16) {
     let hers = rng.pick(&[START + 2 * CHAIN as u16, START + 2 * CHAIN as u16, 0, OTHER]);
-    put(index, START, START + 1, hers, &to_her_group(rng));
+    let records_to_hers = records(rng);
+    put(index, START, START + 1, hers, &to_her_group(rng, records_to_hers));
     if rng.one_in(2) {
         let mut counts = once(two_rights(rng)[0]);
         counts[X] = 1;
@@ -92,7 +93,10 @@ pub fn firms(rng: &mut Rng, index: &mut Index) {
             index.parts[M].insert((OTHER, rng.pick(&[hers, NEUTRAL])), counts);
         }
         2..=4 => drop(index.parts[M].insert((OTHER, rng.pick(&[NEUTRAL, ELSEWHERE])), membership(rng))),
-        _ => put(index, OTHER, ITS, rng.pick(&[hers, hers, hers, START]), &from_object(rng)),
+        _ => {
+            let (end, records) = (rng.pick(&[hers, hers, hers, START]), records(rng));
+            put(index, OTHER, ITS, end, &from_object(rng, records));
+        }
     }
     let key = rng.pick(&[OTHER, OTHER, 0]);
     index.parts[P].insert((key, START), once(ALL));

@@ -13,7 +13,7 @@ use Rattle.index.proofs.laws.block.Masks.{in-zero, mask-map, mask-all}
 use Rattle.rights.specs.declared.walk.Carry.{Carry}
 use Rattle.rights.specs.declared.walk.Carry.the-variants.{Rights}
 use Rattle.rights.specs.Chain.{Chain}
-use Rattle.rights.specs.Held.{Carries, chainLimit}
+use Rattle.rights.specs.Held.{Carries}
 use Rattle.rights.specs.declared.Profile.{Profile}
 use Rattle.rights.specs.work.Marks.{Marked, Walked, Side, Count}
 use Rattle.rights.specs.work.Between.{Between, Led, GrantsIn, GrantedIn}
@@ -60,22 +60,22 @@ start-settled b carry start k z h s = absurd (⊎-elim (λ m. unmarked z m) (λ 
 
 -- ---- both
 
-module _ (b us os : List ℕ) (u o : ℕ) (long : length os ≡ nameCount) (users : Side b Rights chainLimit u us) (objects : Side b Rights chainLimit o os) where
+module _ (n : ℕ) (b us os : List ℕ) (u o : ℕ) (long : length os ≡ nameCount) (users : Side b Rights n u us) (objects : Side b Rights n o os) where
   -- Name 0 counts in full for every object.
-  with-zero : (z : ℕ) → Mask (getD (set os 0 allRights) z 0) (λ k. Chain (Carries b k) chainLimit o z ⊎ (z ≡ 0))
+  with-zero : (z : ℕ) → Mask (getD (set os 0 allRights) z 0) (λ k. Chain (Carries b k) n o z ⊎ (z ≡ 0))
   unfolding Side
   with-zero z =
       elim (ℕ-discrete z 0) [
         | yes e ↦
             rw e
-            (rw (getD-set-same os 0 allRights 0 (omega arith)) (mask-all (λ k. Chain (Carries b k) chainLimit o 0 ⊎ (_≡_ {A = ℕ} 0 0)) (λ k. inr refl)))
+            (rw (getD-set-same os 0 allRights 0 (omega arith)) (mask-all (λ k. Chain (Carries b k) n o 0 ⊎ (_≡_ {A = ℕ} 0 0)) (λ k. inr refl)))
         | no ne ↦
             rw (getD-set-other os 0 z allRights 0 ne)
-            (mask-map (objects z) (λ k. Chain (Carries b k) chainLimit o z ⊎ (z ≡ 0))
+            (mask-map (objects z) (λ k. Chain (Carries b k) n o z ⊎ (z ≡ 0))
             (λ k h. ((λ c. inl c), (λ s. ⊎-elim (λ c. c) (λ e. absurd (ne e)) s))))
       ]
 
-  between-led : (P : ℕ → ℕ → ℕ → Type 0) (k : ℕ) → k < rightCount → Between us (set os 0 allRights) P k ↔ Led b u o P k
+  between-led : (P : ℕ → ℕ → ℕ → Type 0) (k : ℕ) → k < rightCount → Between us (set os 0 allRights) P k ↔ Led n b u o P k
   unfolding Side Between Led
   between-led P k h = (
     (λ t. (
@@ -95,7 +95,7 @@ module _ (b us os : List ℕ) (u o : ℕ) (long : length os ≡ nameCount) (user
 
   -- What the search finds between them.
   pub reached : (p : Profile) {r : ℕ} (request : ℕ) → Mask r (λ k. GrantsIn p b us (set os 0 allRights) k × In k request)
-      → Mask r (λ k. GrantedIn p b u o k × In k request)
+      → Mask r (λ k. GrantedIn p n b u o k × In k request)
   unfolding GrantsIn GrantedIn
   reached p request found =
       mask-map found _

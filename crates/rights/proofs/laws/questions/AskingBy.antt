@@ -14,8 +14,9 @@ use Rattle.rights.specs.declared.Rights.the-variants as rights
 use Rattle.rights.specs.declared.Answer.{Answer}
 use Rattle.rights.specs.declared.Answer.the-variants as answer
 use Rattle.rights.specs.work.Lookup.{Lent}
-use Rattle.rights.specs.Questions.{unreported, Full, Short, FullBy, ShortBy, RightsMean, AnswerMeans, Asks, AsksBy, AsksAll, AsksAllBy}
-use Rattle.rights.proofs.laws.questions.Asking.{positive, refused-block}
+use Rattle.rights.specs.Profiles.{IsProfile}
+use Rattle.rights.specs.Questions.{unreported, questionNeeds, Full, Short, FullBy, ShortBy, RightsMean, AnswerMeans, Asks, AsksBy, AsksAll, AsksAllBy}
+use Rattle.rights.proofs.laws.questions.Requiring.{positive, refused-block}
 
 -- ---- what the tests say where they are passed
 
@@ -41,12 +42,12 @@ module _ (b : List ℕ) (u o request profile : ℕ) where
   -- ---- refused for the block
 
   pub asks-refused : (n : ℕ) → (n ≡ 0 → ⊥) → Answers (blockNeeds b) n → Asks b u o request profile (rights.Refused n)
-  unfolding Asks Full
-  asks-refused n some a = (positive n some, refused-block b u o request profile unreported _ n some a)
+  unfolding Asks Full questionNeeds
+  asks-refused n some a = (positive n some, refused-block b u o request 15 (IsProfile profile) unreported _ some a)
 
   pub asks-all-refused : (n : ℕ) → (n ≡ 0 → ⊥) → Answers (blockNeeds b) n → AsksAll b u o request profile (answer.Refused n)
-  unfolding AsksAll Short
-  asks-all-refused n some a = (positive n some, refused-block b u o request profile (λ n. (n, 0)) _ n some a)
+  unfolding AsksAll Short questionNeeds
+  asks-all-refused n some a = (positive n some, refused-block b u o request 15 (IsProfile profile) (λ n. (n, 0)) _ some a)
 
   -- ---- by a directory: refused for it, or as without it
 

@@ -13,6 +13,7 @@ use Rattle.index.proofs.laws.Firsts.{first-map, with-last, without-last}
 use Rattle.index.proofs.laws.block.Masks.{mask-map}
 use Rattle.directory.specs.By.{By, directoryNeeds}
 use Rattle.rights.specs.declared.Profile.the-variants.{Ordinary, Strict}
+use Rattle.rights.specs.Held.{chainLimit}
 use Rattle.rights.specs.Profiles.{Denies, HoldsIn, ordinary, strict, IsProfile, profileOf}
 use Rattle.rights.specs.Questions.{askNeeds, profileNeeds, questionNeeds, Limited, Reports, HoldsAll, Answered, unreported, Full, Short, FullBy, ShortBy}
 use Rattle.rights.proofs.laws.questions.OneAnswer.{accepted-full}
@@ -30,7 +31,7 @@ module _ (b : List ℕ) (u o : ℕ) where
   -- ---- where no P record counts a small letter
 
   module _ (none : (g s k : ℕ) → k < rightCount → count b Permission g s (k + rightCount) ≡ 0) where
-    undenied : (k : ℕ) → k < rightCount → HoldsIn Ordinary b u o k ↔ HoldsIn Strict b u o k
+    undenied : (k : ℕ) → k < rightCount → HoldsIn Ordinary chainLimit b u o k ↔ HoldsIn Strict chainLimit b u o k
     unfolding HoldsIn Denies
     undenied k h = ((λ a. (a, λ d. omega (arith, d .denial .1, none (d .g) (d .s) k h))), (λ a. a .0))
 

@@ -11,11 +11,11 @@ use Rattle.index.specs.Calls.{blockNeeds}
 use Rattle.index.proofs.laws.Firsts.{All, first-passed, first-refused, first-all, refused-first}
 use Rattle.index.proofs.laws.OneFirst.{one-first}
 use Rattle.index.proofs.laws.block.Masks.{mask-map, mask-one}
-use Rattle.rights.specs.declared.Through.the-variants as through
+use Rattle.rights.specs.declared.Given.the-variants as given
 use Rattle.rights.specs.Groups.{Open}
 use Rattle.rights.specs.Held.{Passes, chainLimit}
 use Rattle.rights.specs.Through.{throughNeeds, Lets, LetsThrough, ThroughAnswers}
-use Rattle.rights.proofs.laws.questions.Asking.{positive}
+use Rattle.rights.proofs.laws.questions.Requiring.{positive}
 
 -- All that such a call needs.
 pub record Named (b : List ℕ) (u o : ℕ) : Type 0 where
@@ -38,16 +38,16 @@ module _ (b : List ℕ) (u o : ℕ) where
 
   -- ---- for the code
 
-  pub block-refused : (n : ℕ) → (n ≡ 0 → ⊥) → Answers (blockNeeds b) n → ThroughAnswers b u o (through.Refused n)
+  pub block-refused : (n : ℕ) → (n ≡ 0 → ⊥) → Answers (blockNeeds b) n → ThroughAnswers b u o (given.Refused n)
   unfolding ThroughAnswers LetsThrough throughNeeds
   block-refused n some a =
       (positive n some, refused-first refusal (blockNeeds b) ((4, IsName u × IsName o) ∷ []) (Lets b u o) n (positive n some) a)
 
-  pub name-refused : Sized b → Good b → (IsName u × IsName o → ⊥) → ThroughAnswers b u o (through.Refused 4)
+  pub name-refused : Sized b → Good b → (IsName u × IsName o → ⊥) → ThroughAnswers b u o (given.Refused 4)
   unfolding ThroughAnswers LetsThrough throughNeeds blockNeeds
   name-refused sized good none = (omega arith, inr (sized, inr (good, inl (none, refl))))
 
-  pub lets : Named b u o → {p r : ℕ} → Mask p (Passes b o) → Mask r (λ k. Open chainLimit b u o × In k p) → ThroughAnswers b u o (through.Mask r)
+  pub lets : Named b u o → {p r : ℕ} → Mask p (Passes b o) → Mask r (λ k. Open chainLimit b u o × In k p) → ThroughAnswers b u o (given.Mask r)
   unfolding ThroughAnswers LetsThrough
   lets h {p} {r} passed opened =
       first-all refusal (Lets b u o) (0, r) (throughNeeds b u o) (all-named h)
@@ -66,7 +66,7 @@ module _ (b : List ℕ) (u o : ℕ) where
 
   -- ---- for the calls that ask it first
 
-  pub through-named : {m : ℕ} → ThroughAnswers b u o (through.Mask m)
+  pub through-named : {m : ℕ} → ThroughAnswers b u o (given.Mask m)
       → Named b u o × Mask m (λ k. Passes b o k × Open chainLimit b u o)
   unfolding ThroughAnswers LetsThrough throughNeeds blockNeeds
   through-named {m} t =
@@ -75,7 +75,7 @@ module _ (b : List ℕ) (u o : ℕ) where
 
   -- A refusal refuses every call that has more requirements behind these.
   pub through-refused : {O : Type 0} (refused : ℕ → O) (more : List (ℕ × Type 0)) (accepted : O → Type 0) (n : ℕ)
-      → ThroughAnswers b u o (through.Refused n) → First refused (throughNeeds b u o ++ more) accepted (refused n)
+      → ThroughAnswers b u o (given.Refused n) → First refused (throughNeeds b u o ++ more) accepted (refused n)
   unfolding ThroughAnswers LetsThrough
   through-refused refused more accepted n t =
       refused-first refused (throughNeeds b u o) more accepted n (t .0)

@@ -31,7 +31,7 @@ AnswersAgree request (rights.Refused n) answer.No = ⊥
 AnswersAgree request (rights.Refused n) (answer.Refused m) = n ≡ m
 
 -- Two calls with the same requirements are refused with the same number, or both accepted.
-first-both : {O P : Type 0} (f : ℕ → O) (g : ℕ → P) (ts : List (ℕ × Type 0)) (A : O → Type 0) (B : P → Type 0) (a : O) (b : P)
+pub first-both : {O P : Type 0} (f : ℕ → O) (g : ℕ → P) (ts : List (ℕ × Type 0)) (A : O → Type 0) (B : P → Type 0) (a : O) (b : P)
     → Positive ts → First f ts A a → First g ts B b → ((n : ℕ) × (0 < n) × (a ≡ f n) × (b ≡ g n)) ⊎ (A a × B b)
 first-both f g [] A B a b s p q = inr (p, q)
 first-both f g (t ∷ ts) A B a b s (inl p) (inl q) = inl (t .0, s .0, p .1, q .1)

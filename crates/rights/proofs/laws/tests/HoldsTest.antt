@@ -13,7 +13,7 @@ use Rattle.index.specs.Letters.{rightCount}
 use Rattle.index.specs.Block.{from, size, key, id, countAt, Good}
 use Rattle.index.proofs.laws.Tests.{both, some}
 use Rattle.rights.specs.declared.Profile.the-variants.{Strict}
-use Rattle.rights.specs.Held.{Net, Holds, chainLimit}
+use Rattle.rights.specs.Held.{Net, Holds}
 use Rattle.rights.specs.Profiles.{Barred}
 use Rattle.rights.specs.work.Between.{Led}
 use Rattle.rights.proofs.laws.questions.Asking.{before, barred}
@@ -33,33 +33,33 @@ someTest b t us os = some (reachedTest b t us os) (from b Permission) (size b Pe
 abbrev deniedTest : List ℕ → ℕ → ℕ → Bool
 deniedTest b k i = ltb 0 (countAt b i (k + rightCount))
 
--- The names that chains of at most 32 records lead to.
-abbrev reach : List ℕ → ℕ → ℕ → List ℕ
-reach b k x = carriedTo b k chainLimit x
+-- The names that chains of at most n records lead to.
+abbrev reach : ℕ → List ℕ → ℕ → ℕ → List ℕ
+reach n b k x = carriedTo b k n x
 
-abbrev pub holdsTest : List ℕ → ℕ → ℕ → ℕ → Bool
-holdsTest b u o k =
-    let us = reach b k u in
-    let os : List ℕ = 0 ∷ reach b k o in
-    ltb k rightCount && (passesTest b o k && (openTest b u o && someTest b (netTest b k) us os))
+abbrev pub holdsTest : ℕ → List ℕ → ℕ → ℕ → ℕ → Bool
+holdsTest n b u o k =
+    let us = reach n b k u in
+    let os : List ℕ = 0 ∷ reach n b k o in
+    ltb k rightCount && (passesTest b o k && (openTest n b u o && someTest b (netTest b k) us os))
 
 -- Barred.
-abbrev pub barredTest : List ℕ → ℕ → ℕ → ℕ → Bool
-barredTest b u o k =
-    let us = reach b k u in
-    let os : List ℕ = 0 ∷ reach b k o in
+abbrev pub barredTest : ℕ → List ℕ → ℕ → ℕ → ℕ → Bool
+barredTest n b u o k =
+    let us = reach n b k u in
+    let os : List ℕ = 0 ∷ reach n b k o in
     someTest b (deniedTest b k) us os
 
-module _ {b : List ℕ} (g : Good b) (u o k : ℕ) (small : k < rightCount) {Q : ℕ → ℕ → Type 0} {P : ℕ → ℕ → ℕ → Type 0} (told : Told b Q P)
+module _ {b : List ℕ} (g : Good b) (n u o k : ℕ) (small : k < rightCount) {Q : ℕ → ℕ → Type 0} {P : ℕ → ℕ → ℕ → Type 0} (told : Told b Q P)
     (t : ℕ → Bool) (right : (i : ℕ) → (t i ≡ true) ↔ Q i k) where
   abbrev us : List ℕ
-  us = reach b k u
+  us = reach n b k u
 
   abbrev os : List ℕ
-  os = 0 ∷ reach b k o
+  os = 0 ∷ reach n b k o
 
   -- A record of which the test holds, and the names s and g.
-  pub led-test : (someTest b t us os ≡ true) ↔ Led b u o P k
+  pub led-test : (someTest b t us os ≡ true) ↔ Led n b u o P k
   unfolding Led
   led-test = (
     (λ e.
@@ -70,44 +70,44 @@ module _ {b : List ℕ} (g : Good b) (u o k : ℕ) (small : k < rightCount) {Q :
           id b i,
           key b i,
           record {
-            user-chain = carried-test b k g small chainLimit u (id b i) .0 (q .0);
-            object-chain = ⊎-elim (λ z. inr z) (λ m. inl (carried-test b k g small chainLimit o (key b i) .0 m)) (member-first (key b i) 0 (reach b k o) (q .1));
+            user-chain = carried-test b k g small n u (id b i) .0 (q .0);
+            object-chain = ⊎-elim (λ z. inr z) (λ m. inl (carried-test b k g small n o (key b i) .0 m)) (member-first (key b i) 0 (reach n b k o) (q .1));
           },
           told .at k small (at-self (w .1, w .2)) .0 (right i .0 (p .0)),
         )),
     (λ l.
         let w = told .where-is k (l .3) in
         let at = w .1 in
-        let in-users = carried-test b k g small chainLimit u (l .0) .1 (l .2 .user-chain) in
+        let in-users = carried-test b k g small n u (l .0) .1 (l .2 .user-chain) in
         let in-objects : member (l .1) os ≡ true =
-        ⊎-elim (λ c. member-later (l .1) 0 (reach b k o) (carried-test b k g small chainLimit o (l .1) .1 c))
-        (λ z. subst (λ (x : ℕ). member x os ≡ true) (sym z) (member-own 0 (reach b k o))) (l .2 .object-chain) in
+        ⊎-elim (λ c. member-later (l .1) 0 (reach n b k o) (carried-test b k g small n o (l .1) .1 c))
+        (λ z. subst (λ (x : ℕ). member x os ≡ true) (sym z) (member-own 0 (reach n b k o))) (l .2 .object-chain) in
         from-some (reachedTest b t us os) (from b Permission) (size b Permission) (w .0) (at .of .0) (at .of .1)
         (and-true (right (w .0) .1 (told .at k small at .1 (l .3)))
         (and-true (subst (λ (y : ℕ). member y us ≡ true) (sym (at .has-id)) in-users)
         (subst (λ (x : ℕ). member x os ≡ true) (sym (at .has-key)) in-objects)))),
   )
 
-pub barred-test : {b : List ℕ} → Good b → (u o k : ℕ) → k < rightCount → (barredTest b u o k ≡ true) ↔ Barred b u o k
-barred-test {b} g u o k small =
-    let t = led-test g u o k small (told-bars g Strict) (deniedTest b k) (λ i. (ltb-true 0 _, lt-ltb 0 _)) in
-    ((λ e. barred b u o k .0 (t .0 e)), (λ d. t .1 (barred b u o k .1 d)))
+pub barred-test : {b : List ℕ} → Good b → (n u o k : ℕ) → k < rightCount → (barredTest n b u o k ≡ true) ↔ Barred n b u o k
+barred-test {b} g n u o k small =
+    let t = led-test g n u o k small (told-bars g Strict) (deniedTest b k) (λ i. (ltb-true 0 _, lt-ltb 0 _)) in
+    ((λ e. barred n b u o k .0 (t .0 e)), (λ d. t .1 (barred n b u o k .1 d)))
 
-pub holds-test : {b : List ℕ} → Good b → (u o k : ℕ) → (holdsTest b u o k ≡ true) ↔ Holds b u o k
+pub holds-test : {b : List ℕ} → Good b → (n u o k : ℕ) → (holdsTest n b u o k ≡ true) ↔ Holds n b u o k
 unfolding Net
-holds-test {b} g u o k = (
+holds-test {b} g n u o k = (
   (λ e.
       let a = both (ltb k rightCount) _ e in
       let h = ltb-true k rightCount (a .0) in
       let q = both (passesTest b o k) _ (a .1) in
-      let v = both (openTest b u o) _ (q .1) in
-      before b u o k .0 (granted h .0 (v .1), passes-test g k h o .0 (q .0), open-test g u o .0 (v .0))),
+      let v = both (openTest n b u o) _ (q .1) in
+      before n b u o k .0 (granted h .0 (v .1), passes-test g k h o .0 (q .0), open-test g n u o .0 (v .0))),
   (λ held.
       let h = held .grant .0 in
-      let q = before b u o k .1 held in
+      let q = before n b u o k .1 held in
       and-true (lt-ltb k rightCount h)
-      (and-true (passes-test g k h o .1 (q .1)) (and-true (open-test g u o .1 (q .2)) (granted h .1 (q .0))))),
+      (and-true (passes-test g k h o .1 (q .1)) (and-true (open-test g n u o .1 (q .2)) (granted h .1 (q .0))))),
 )
   where
-    granted : (h : k < rightCount) → (someTest b (netTest b k) (reach b k u) (0 ∷ reach b k o) ≡ true) ↔ Led b u o (Net b Permission) k
-    granted h = led-test g u o k h (told-net g) (netTest b k) (net-test b k)
+    granted : (h : k < rightCount) → (someTest b (netTest b k) (reach n b k u) (0 ∷ reach n b k o) ≡ true) ↔ Led n b u o (Net b Permission) k
+    granted h = led-test g n u o k h (told-net g) (netTest b k) (net-test b k)

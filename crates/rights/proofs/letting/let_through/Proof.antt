@@ -26,7 +26,7 @@ filter-of-requires c κs =
 
 opened-requires : tie.Need-opened-requires
 opened-requires c κs =
-    (lent-none _ (c .before .before .before .before .before .if1 .left) (c .before .before .before .before .before .before .tested .ensures), (omega (arith, c .before .before .before .before .if2 .left), (omega (arith, c .before .before .before .if3 .left), c .before .filter-of .ensures .0)))
+    (lent-none _ (c .before .before .before .before .before .if1 .left) (c .before .before .before .before .before .before .tested .ensures), (omega (arith, c .before .before .before .before .if2 .left), (omega (arith, c .before .before .before .if3 .left), (c .before .filter-of .ensures .0, omega arith))))
 
 returns-4 : tie.Need-returns-4
 returns-4 c =

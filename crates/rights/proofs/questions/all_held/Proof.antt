@@ -8,41 +8,45 @@ use Rattle.index.proofs.laws.block.Masks.{mask-limited}
 use Rattle.rights.specs.declared.Answer.the-variants.{Yes, No}
 use Rattle.rights.specs.Groups.{Open}
 use Rattle.rights.specs.Held.{chainLimit}
-use Rattle.rights.specs.Profiles.{profileOf}
-use Rattle.rights.specs.Questions.{HoldsAll, Answered, Short, AsksAll}
+use Rattle.rights.specs.Profiles.{IsProfile, profileOf}
+use Rattle.rights.specs.Questions.{questionNeeds, HoldsAll, Answered, Short, AsksAll}
 use Rattle.rights.specs.work.Between.{GrantedIn}
 use Rattle.rights.proofs.laws.held.Grouping.{open-free}
-use Rattle.rights.proofs.laws.questions.Asking.{Asked, asked, positive, refused, accepts, filtered, granted-all, held-all, open-all}
+use Rattle.rights.proofs.laws.questions.Asking.{filtered, granted-all, held-all, open-all}
+use Rattle.rights.proofs.laws.questions.Requiring.{positive, Asked, asked, refused, accepts}
 use Rattle.rights.proofs.questions.all_held.Statement.{statement}
 use Rattle.rights.proofs.questions.all_held.Tie as tie
 
 returns : tie.Need-returns
-unfolding AsksAll Short
+unfolding AsksAll Short questionNeeds
 returns c =
     let start = c .before .before .before .before in
-    (positive _ (c .if1 .taken), refused _ _ _ _ _ (λ n. (n, 0)) _ (start .pre .0) (start .pre .1 .0) _ (c .if1 .taken) (c .before .refusal .ensures))
+    (positive _ (c .if1 .taken), refused _ _ _ _ 15 _ (λ n. (n, 0)) _ (start .pre .0) (start .pre .1 .0) (c .if1 .taken) (c .before .refusal .ensures))
 
 -- All that the question needs holds.
 module _ (c : tie.Else1) where
   abbrev start : tie.Start
   start = c .before .before .before .before
 
-  all : Asked (start .args .block .now) (start .args .user) (start .args .object) (start .args .request) (start .args .profile)
-  all =
-      asked (start .args .block .now) (start .args .user) (start .args .object) (start .args .request) (start .args .profile) (start .pre .0)
-      (start .pre .1 .0) (c .before .refusal .result) (c .if1 .left) (c .before .refusal .ensures)
+  passes : Asked (start .args .block .now) (start .args .user) (start .args .object) (start .args .request) × IsProfile (start .args .profile)
+  passes =
+      asked (start .args .block .now) (start .args .user) (start .args .object) (start .args .request) 15 (IsProfile (start .args .profile)) (omega arith) (start .pre .0)
+      (start .pre .1 .0) (c .if1 .left) (c .before .refusal .ensures)
+
+  all : Asked (start .args .block .now) (start .args .user) (start .args .object) (start .args .request)
+  all = passes .0
 
   -- Every requested right is held, and what the answer is then, and if not.
   abbrev All : Type 0
   All = HoldsAll (profileOf (start .args .profile)) (start .args .block .now) (start .args .user) (start .args .object) (start .args .request)
 
   yes : All → AsksAll (start .args .block .now) (start .args .user) (start .args .object) (start .args .request) (start .args .profile) Yes
-  unfolding AsksAll Short
-  yes h = accepts _ _ _ _ _ (λ n. (n, 0)) _ (0, 1) all (refl, omega arith, ((λ e. h), (λ h. refl)))
+  unfolding AsksAll Short questionNeeds
+  yes h = accepts _ _ _ _ 15 _ (λ n. (n, 0)) _ (0, 1) all (passes .1) (refl, omega arith, ((λ e. h), (λ h. refl)))
 
   no : (All → ⊥) → AsksAll (start .args .block .now) (start .args .user) (start .args .object) (start .args .request) (start .args .profile) No
-  unfolding AsksAll Short
-  no f = accepts _ _ _ _ _ (λ n. (n, 0)) _ (0, 0) all (refl, omega arith, ((λ e. absurd (omega arith)), (λ h. absurd (f h))))
+  unfolding AsksAll Short questionNeeds
+  no f = accepts _ _ _ _ 15 _ (λ n. (n, 0)) _ (0, 0) all (passes .1) (refl, omega arith, ((λ e. absurd (omega arith)), (λ h. absurd (f h))))
 
 cast-wanted : tie.Need-cast-wanted
 cast-wanted c = omega (arith, all c .small)
@@ -58,14 +62,14 @@ returns-2 c =
 granted-requires : tie.Need-granted-requires
 granted-requires c κs =
     let a = all (c .before .before .before) in
-    ((a .sized, (a .good, start (c .before .before .before) .pre .1 .1)), (a .user, a .object))
+    ((a .sized, (a .good, start (c .before .before .before) .pre .1 .1)), (a .user, (a .object, omega arith)))
 
 -- What is granted, of the rights requested, in the profile of this number.
 module _ (c : tie.After-granted) where
   abbrev passed : tie.Else1
   passed = c .before .before .before .before
 
-  told : Mask (c .granted .result .rights) (λ k. GrantedIn (profileOf (start passed .args .profile)) (start passed .args .block .now) (start passed .args .user) (start passed .args .object) k × In k (start passed .args .request))
+  told : Mask (c .granted .result .rights) (λ k. GrantedIn (profileOf (start passed .args .profile)) chainLimit (start passed .args .block .now) (start passed .args .user) (start passed .args .object) k × In k (start passed .args .request))
   told = rw (← c .before .profile-of .ensures) (c .granted .ensures .0)
 
 returns-3 : tie.Need-returns-3
@@ -91,7 +95,7 @@ is-open-requires : tie.Need-is-open-requires
 is-open-requires c κs =
     let first = passed (c .before .before .before .before) in
     let a = all first in
-    ((a .sized, (a .good, start first .pre .1 .1)), (a .user, a .object))
+    ((a .sized, (a .good, start first .pre .1 .1)), (a .user, (a .object, omega arith)))
 
 returns-5 : tie.Need-returns-5
 returns-5 c =

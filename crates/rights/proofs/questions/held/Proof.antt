@@ -1,69 +1,49 @@
--- `questions::held` meets its contract: the refusal, or the rights held and the records examined.
+-- `questions::held` meets its contract: the refusal, or the rights held and the records examined, with chains of at most 32 records.
 use mathlib.Core.Path.{refl}
 use native.Mathlib.Omega.{arith}
 use borrow.Author.Needs.{needs}
-use Rattle.index.proofs.laws.block.Masks.{mask-limited}
-use Rattle.rights.specs.Profiles.{profileOf}
-use Rattle.rights.specs.Questions.{Reports, unreported, Full, Asks}
-use Rattle.rights.proofs.laws.questions.Asking.{Asked, asked, positive, refused, accepts, limited}
+use Rattle.rights.specs.Profiles.{IsProfile, profileOf}
+use Rattle.rights.specs.Questions.{questionNeeds, Reports, unreported, Full, Asks}
+use Rattle.rights.proofs.laws.questions.Requiring.{positive, Asked, asked, refused, accepts}
 use Rattle.rights.proofs.questions.held.Statement.{statement}
 use Rattle.rights.proofs.questions.held.Tie as tie
 
 returns : tie.Need-returns
-unfolding Asks Full
+unfolding Asks Full questionNeeds
 returns c =
     let start = c .before .before .before .before in
-    (positive _ (c .if1 .taken), refused _ _ _ _ _ unreported _ (start .pre .0) (start .pre .1 .0) _ (c .if1 .taken) (c .before .refusal .ensures))
+    (positive _ (c .if1 .taken), refused _ _ _ _ 15 _ unreported _ (start .pre .0) (start .pre .1 .0) (c .if1 .taken) (c .before .refusal .ensures))
 
 -- All that the question needs holds.
 module _ (c : tie.Else1) where
   abbrev start : tie.Start
   start = c .before .before .before .before
 
-  all : Asked (start .args .block .now) (start .args .user) (start .args .object) (start .args .request) (start .args .profile)
-  all =
-      asked (start .args .block .now) (start .args .user) (start .args .object) (start .args .request) (start .args .profile) (start .pre .0)
-      (start .pre .1 .0) (c .before .refusal .result) (c .if1 .left) (c .before .refusal .ensures)
+  passes : Asked (start .args .block .now) (start .args .user) (start .args .object) (start .args .request) × IsProfile (start .args .profile)
+  passes =
+      asked (start .args .block .now) (start .args .user) (start .args .object) (start .args .request) 15 (IsProfile (start .args .profile)) (omega arith) (start .pre .0)
+      (start .pre .1 .0) (c .if1 .left) (c .before .refusal .ensures)
 
-filter-of-requires : tie.Need-filter-of-requires
-filter-of-requires c κs = (all c .sized, (all c .good, (start c .pre .1 .1, all c .object)))
+  all : Asked (start .args .block .now) (start .args .user) (start .args .object) (start .args .request)
+  all = passes .0
 
-cast-wanted : tie.Need-cast-wanted
-cast-wanted c = omega (arith, all (c .before) .small)
+cast-request : tie.Need-cast-within
+cast-request c = omega (arith, all c .small)
 
-granted-requires : tie.Need-granted-requires
-granted-requires c κs =
-    let a = all (c .before .before) in
-    ((a .sized, (a .good, start (c .before .before) .pre .1 .1)), (a .user, a .object))
-
-opened-requires : tie.Need-opened-requires
-opened-requires c κs =
-    let a = all (c .before .before .before) in
-    ((a .sized, (a .good, start (c .before .before .before) .pre .1 .1)), (a .user, (a .object, c .granted .ensures .0 .0)))
+within-requires : tie.Need-within-requires
+within-requires c κs =
+    let a = all (c .before) in
+    ((a .sized, (a .good, start (c .before) .pre .1 .1)), (a .user, (a .object, omega arith)))
 
 returns-2 : tie.Need-returns-2
-unfolding Asks Full
+unfolding Asks Full questionNeeds
 returns-2 c =
-    let start = c .before .before .before .before .before .before .before .before in
-    let b = start .args .block .now in
-    let u = start .args .user in
-    let o = start .args .object in
-    let q = start .args .request in
-    let p = start .args .profile in
-    let reach = c .before .granted .result in
-    let told = rw (c .before .before .profile-of .ensures) at (c .before .granted .ensures) in
-    accepts b u o q p unreported (Reports (profileOf p) b u o q) (0, c .opened .result, reach .user, reach .object) (all (c .before .before .before .before))
-    (refl, limited (profileOf p) b u o q (mask-limited (c .before .before .before .filter-of .ensures) q) (told .0) (c .opened .ensures), told .1 .0 .sum, told .1 .1 .sum)
+    let passed = c .before .before in
+    let args = start passed .args in
+    let reach = c .within .result in
+    let told = rw (c .before .profile-of .ensures) at (c .within .ensures) in
+    accepts (args .block .now) (args .user) (args .object) (args .request) 15 _ unreported (Reports (profileOf (args .profile)) (args .block .now) (args .user) (args .object) (args .request))
+    (0, reach .rights, reach .user, reach .object) (all passed) (passes passed .1) (refl, told .0, told .1 .0 .sum, told .1 .1 .sum)
 
 pub held-spec : {M : Type 1} → statement M
-held-spec =
-    tie.close
-    (tie.spec
-    (λ c κs. search needs)
-    returns
-    filter-of-requires
-    cast-wanted
-    (λ c κs. search needs)
-    granted-requires
-    opened-requires
-    returns-2)
+held-spec = tie.close (tie.spec (λ c κs. search needs) returns cast-request (λ c κs. search needs) within-requires returns-2)

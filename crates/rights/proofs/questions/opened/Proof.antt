@@ -5,7 +5,6 @@ use Rattle.index.specs.Letters.{In, Mask}
 use Rattle.index.proofs.laws.Answer.{yes-is, no-is}
 use Rattle.index.proofs.laws.block.Masks.{in-zero, mask-map, mask-none, mask-self}
 use Rattle.rights.specs.Groups.{Open}
-use Rattle.rights.specs.Held.{chainLimit}
 use Rattle.rights.proofs.laws.held.Grouping.{open-free}
 use Rattle.rights.proofs.questions.opened.Statement.{statement}
 use Rattle.rights.proofs.questions.opened.Tie as tie
@@ -14,9 +13,9 @@ returns : tie.Need-returns
 returns c = mask-none _ (λ k p. in-zero k (rw (c .if1 .taken) at (p .1)))
 
 -- All rights, on an object that is open.
-all : (start : tie.Start) → Open chainLimit (start .args .block .now) (start .args .user) (start .args .object)
-    → Mask (start .args .rights) (λ k. Open chainLimit (start .args .block .now) (start .args .user) (start .args .object) × In k (start .args .rights))
-all start opened = mask-map (mask-self (start .args .rights) (start .pre .1 .1 .1)) _ (λ k h. ((λ i. (opened, i)), (λ p. p .1)))
+all : (start : tie.Start) → Open (start .args .limit) (start .args .block .now) (start .args .user) (start .args .object)
+    → Mask (start .args .rights) (λ k. Open (start .args .limit) (start .args .block .now) (start .args .user) (start .args .object) × In k (start .args .rights))
+all start opened = mask-map (mask-self (start .args .rights) (start .pre .1 .1 .1 .0)) _ (λ k h. ((λ i. (opened, i)), (λ p. p .1)))
 
 returns-2 : tie.Need-returns-2
 returns-2 c =

@@ -31,7 +31,7 @@ returns-2 c =
     let one = all (c .before) .0 in
     find-none _ _ _ _ _ _ (c .before .before .before .before .before .before .pre .0) (all (c .before))
     (λ p.
-    let h = for-right (Holds _ _ _) (right-of-one one) one .0 p in
+    let h = for-right (Holds _ _ _ _) (right-of-one one) one .0 p in
     stopped _ _ _ (right-of-one one) one (c .before .before .before .before .before .before .pre .1) (c .if2 .taken) (h .filters) (h .exclusive))
 
 sought-requires : tie.Need-sought-requires

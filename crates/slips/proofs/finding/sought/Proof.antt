@@ -35,7 +35,7 @@ returns : tie.Need-returns
 returns c =
     let good = c .before .before .before .before .before .before .before .before .before .before .before .before .before .before .before .before .before .before .pre .0 .0 .good in
     let right = c .before .before .before .before .before .before .before .before .before .before .before .before .before .before .before .before .before .before .pre .0 .1 .0 in
-    inr ((λ p. not-held good right (c .before .before .before .before .before .before .before .before .before .walk .ensures) (c .before .before .before .before .before .walk2 .ensures) (subst (Granted _ _ _ _) (c .enum-told .given .1) (c .before .before .nearest .ensures)) (for-right (Holds _ _ _) (right-is _ right) (_, right, refl, tt) .0 p)), refl)
+    inr ((λ p. not-held good right (c .before .before .before .before .before .before .before .before .before .walk .ensures) (c .before .before .before .before .before .walk2 .ensures) (subst (Granted _ _ _ _) (c .enum-told .given .1) (c .before .before .nearest .ensures)) (for-right (Holds _ _ _ _) (right-is _ right) (_, right, refl, tt) .0 p)), refl)
 
 trace-requires : tie.Need-trace-requires
 trace-requires c κs =

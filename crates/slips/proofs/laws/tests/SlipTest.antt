@@ -17,7 +17,7 @@ use Rattle.index.specs.work.Places.{At}
 use Rattle.index.proofs.laws.Answer.{says-same, equal-says}
 use Rattle.index.proofs.laws.Deciding.{most-says, says-and, says-all}
 use Rattle.index.proofs.laws.Tests.{both, all, some}
-use Rattle.rights.specs.Held.{Net, Carries}
+use Rattle.rights.specs.Held.{Net, Carries, chainLimit}
 use Rattle.rights.proofs.laws.ByNumber.{net-at, net-where}
 use Rattle.rights.proofs.laws.tests.ChainTest.{and-true, some-from, from-some, netTest, net-test}
 use Rattle.rights.proofs.laws.tests.FilterTest.{passesTest, passes-test}
@@ -49,7 +49,7 @@ zeroTest (x ∷ y ∷ names) = false
 abbrev pub slipTest : List ℕ → ℕ → ℕ → ℕ → List ℕ → List ℕ → Bool
 slipTest b u o k us os =
     namesTest b k u us
-    && (cond (zeroTest os) true (namesTest b k o os) && (linkTest b Permission k (last os) (last us) && (passesTest b o k && openTest b u o)))
+    && (cond (zeroTest os) true (namesTest b k o os) && (linkTest b Permission k (last os) (last us) && (passesTest b o k && openTest chainLimit b u o)))
 
 -- ---- what it says
 
@@ -106,4 +106,4 @@ module _ {b : List ℕ} (g : Good b) (k : ℕ) (small : k < rightCount) where
       (says-and _ _ (namesTest b k u us) _ (names-says u us)
       (says-and _ _ (cond (zeroTest os) true (namesTest b k o os)) _ (says-or (Names (Carries b k) o os) (ZeroAlone os) (zeroTest os) (namesTest b k o os) (zero-says os) (names-says o os))
       (says-and _ _ (linkTest b Permission k (last os) (last us)) _ (link-says Permission (last os) (last us))
-      (says-and _ _ (passesTest b o k) _ (says-test (passesTest b o k) (passes-test g k small o)) (says-test (openTest b u o) (open-test g u o))))))
+      (says-and _ _ (passesTest b o k) _ (says-test (passesTest b o k) (passes-test g k small o)) (says-test (openTest chainLimit b u o) (open-test g chainLimit u o))))))

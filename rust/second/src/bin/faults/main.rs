@@ -1,6 +1,7 @@
 //! Shows that the comparison can find a fault: plants one fault at a time in a copy of the plain program, which stands where
 //! the library stands, and runs the comparison on it. Every fault must be caught, and by a wrong answer: a program that stops is
-//! not enough. Run it in `rust/`: faults [WORDS], where only faults are planted that have the words in their names.
+//! not enough. Run it in `rust/`: faults [WORDS], where only faults are planted that have the words in their names, or `limits` for
+//! those of limits. It prints in which case each was caught.
 
 use std::fs;
 use std::path::{Path, PathBuf};
@@ -8,6 +9,7 @@ use std::process::{Command, Stdio};
 
 mod appointments;
 mod days;
+mod limits;
 mod markers;
 mod profiles;
 mod slips;
@@ -16,7 +18,7 @@ mod wide;
 /// What the fault is, the text in plain/src, and what is put in its place.
 type Fault = (&'static str, &'static str, &'static str);
 
-/// The faults but for those of markers, of profiles, of slips, of wide messages, of days and of appointments.
+/// The faults but for those of markers, of profiles, of slips, of limits, of wide messages, of days and of appointments.
 const FAULTS: &[Fault] = &[
     ("a block that is a byte too short is one that is not good", "if b.len() < HEADER || b.len() > GREATEST {\n        return Err(1);\n    }\n    let at", "if b.len() + 1 == HEADER {\n        return Err(2);\n    }\n    if b.len() < HEADER || b.len() > GREATEST {\n        return Err(1);\n    }\n    let at"),
     ("a block that is a byte too long is taken", "b.len() > GREATEST {\n        return 1;\n    }\n    b.fill(0);", "b.len() > GREATEST + 1 {\n        return 1;\n    }\n    b.fill(0);"),
@@ -212,19 +214,21 @@ fn copy(from: &Path, to: &Path) -> std::io::Result<()> {
     Ok(())
 }
 
-/// How a comparison ended: without a disagreement, with one, or because the program did not go on.
+/// How a comparison ended: without a disagreement, with one, of which the seed and the case are told, or because the program did not
+/// go on.
 enum End {
     Agreed,
-    Disagreed,
+    Disagreed(String),
     Stopped,
 }
 
 impl End {
-    fn told(&self) -> &str {
+    /// How it ended with a fault.
+    fn told(&self, what: &str) -> String {
         match self {
-            End::Agreed => "MISSED",
-            End::Disagreed => "caught",
-            End::Stopped => "STOPPED",
+            End::Agreed => format!("MISSED {what}"),
+            End::Disagreed(place) => format!("caught {what} (seed {place})"),
+            End::Stopped => format!("STOPPED {what}"),
         }
     }
 }
@@ -239,10 +243,11 @@ fn compared(folder: &Path) -> std::io::Result<End> {
         .output()?;
     let said = String::from_utf8_lossy(&run.stdout).into_owned() + &String::from_utf8_lossy(&run.stderr);
     assert!(said.contains("test result:"), "the comparison did not run:\n{said}");
-    Ok(match run.status.success() {
-        true => End::Agreed,
-        false if said.contains("\nseed ") => End::Disagreed,
-        false => End::Stopped,
+    let place = said.split("\nseed ").nth(1).and_then(|rest| rest.split(':').next());
+    Ok(match (run.status.success(), place) {
+        (true, _) => End::Agreed,
+        (false, Some(place)) => End::Disagreed(place.into()),
+        (false, None) => End::Stopped,
     })
 }
 
@@ -268,17 +273,20 @@ fn main() -> std::io::Result<()> {
         .map(|entry| entry.map(|entry| entry.path()).and_then(|path| Ok((path.clone(), fs::read_to_string(path)?))))
         .collect::<std::io::Result<_>>()?;
     let words = std::env::args().nth(1).unwrap_or_default();
-    let all = [FAULTS, markers::FAULTS, profiles::FAULTS, slips::FAULTS, wide::FAULTS, days::FAULTS, appointments::FAULTS];
-    let faults: Vec<&Fault> = all.into_iter().flatten().filter(|fault| fault.0.contains(&words)).collect();
-    let places: Vec<&Source> = faults.iter().map(|(what, old, _)| place(&sources, what, old)).collect();
+    let questions = [markers::FAULTS, profiles::FAULTS, slips::FAULTS, limits::FAULTS].concat();
+    let all = [FAULTS, &questions, wide::FAULTS, days::FAULTS, appointments::FAULTS].concat();
+    let planted: Vec<(&Fault, &Source)> = all.iter().map(|fault| (fault, place(&sources, fault.0, fault.1))).collect();
+    let wanted =
+        |what: &str| what.contains(&words) || (words == "limits" && limits::FAULTS.iter().any(|fault| fault.0 == what));
+    let faults: Vec<(&Fault, &Source)> = planted.into_iter().filter(|((what, ..), _)| wanted(what)).collect();
     assert!(matches!(compared(&folder)?, End::Agreed), "the program without a fault disagrees");
     let mut missed = 0;
-    for ((what, old, new), (path, text)) in faults.iter().zip(places) {
+    for &((what, old, new), (path, text)) in &faults {
         fs::write(path, text.replace(old, new))?;
         let end = compared(&folder)?;
         fs::write(path, text)?;
-        println!("{} {what}", end.told());
-        missed += usize::from(!matches!(end, End::Disagreed));
+        println!("{}", end.told(what));
+        missed += usize::from(!matches!(end, End::Disagreed(_)));
     }
     fs::remove_dir_all(&folder)?;
     println!("{} faults, {} caught by a wrong answer", faults.len(), faults.len() - missed);

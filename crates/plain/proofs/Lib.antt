@@ -1,0 +1,2 @@
+-- Laws of the plain engine.
+pub mod laws

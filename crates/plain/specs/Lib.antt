@@ -1,0 +1,4 @@
+-- What the support desk reads.
+pub mod Plain
+-- What only proofs need.
+pub mod work

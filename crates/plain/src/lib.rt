@@ -1,0 +1,16 @@
+// A plain second engine, which the desk can follow with a finger: no marks, no lists. Each function says what it asks.
+
+mod asking;
+mod filters;
+mod grants;
+mod groups;
+mod reaching;
+mod records;
+
+pub use crate::asking::rights_within;
+
+// The greatest limit of a chain.
+pub const LIMIT: u64 = 8;
+
+// A block has at most so many M records.
+pub const MOST: u16 = 64;

@@ -1,0 +1,98 @@
+-- M-111: the rights held to a limit. No second answer; the same whatever else is required, where it holds; and at 32 those of the full question.
+use Prim.Native.Nat.{ℕ, suc, _<_, _≤_}
+use mathlib.Core.Path.{_≡_, refl, sym, ap, _∙_}
+use mathlib.Core.List.{List, [], _∷_, _++_}
+use mathlib.Core.Logic.{inl, ⊎-elim}
+use native.Mathlib.Omega.{arith}
+use Rattle.index.specs.Numbers.{First}
+use Rattle.index.specs.Calls.{blockNeeds}
+use Rattle.index.proofs.laws.Firsts.{All, first-passed, without-last}
+use Rattle.index.proofs.laws.OneFirst.{one-first}
+use Rattle.index.proofs.laws.block.Masks.{mask-one}
+use Rattle.rights.specs.declared.Given.{Given}
+use Rattle.rights.specs.declared.Given.the-variants as given
+use Rattle.rights.specs.declared.Profile.the-variants.{Ordinary}
+use Rattle.rights.specs.Held.{chainLimit}
+use Rattle.rights.specs.HeldTo.{limitNeeds, HeldWithin, HeldTo, AsksTo}
+use Rattle.rights.specs.Profiles.{ordinary, IsProfile, profileOf}
+use Rattle.rights.specs.Questions.{askNeeds, profileNeeds, questionNeeds, Limited, Reports, unreported, Full, GivenMeans}
+use Rattle.rights.proofs.laws.questions.ShortAgrees.{first-both}
+
+abbrev refusal : ℕ → ℕ × ℕ
+refusal n = (n, 0)
+
+-- ---- the answers of the code that are a mask or a refusal
+
+abbrev givenOf : ℕ × ℕ → Given
+givenOf (ℕ.zero, m) = given.Mask m
+givenOf (suc n, m) = given.Refused (suc n)
+
+given-back : (Outcome : ℕ × ℕ → Type 0) (r : Given) → GivenMeans Outcome r → (a : ℕ × ℕ) × Outcome a × (givenOf a ≡ r)
+given-back Outcome (given.Mask m) p = ((0, m), p, refl)
+given-back Outcome (given.Refused ℕ.zero) p = absurd (omega (arith, p .0))
+given-back Outcome (given.Refused (suc n)) p = ((suc n, 0), p .1, refl)
+
+pub given-once : (Outcome : ℕ × ℕ → Type 0) → ((a c : ℕ × ℕ) → Outcome a → Outcome c → a ≡ c) → (r s : Given)
+    → GivenMeans Outcome r → GivenMeans Outcome s → r ≡ s
+given-once Outcome one r s p q =
+    let x = given-back Outcome r p in
+    let y = given-back Outcome s q in
+    sym (x .2) ∙ ap givenOf (one (x .0) (y .0) (x .1) (y .1)) ∙ y .2
+
+module _ (b : List ℕ) (u o request limit : ℕ) where
+  one-held : (a c : ℕ × ℕ) → HeldWithin limit b u o request a → HeldWithin limit b u o request c → a ≡ c
+  unfolding Limited
+  one-held a c p q =
+      let n : a .0 ≡ c .0 = p .0 ∙ sym (q .0) in
+      let m : a .1 ≡ c .1 = mask-one (p .1) (q .1) in
+      λ i. (n i, m i)
+
+  -- A question with this limit, of any engine, that is refused with 14 unless Within.
+  abbrev Asking : Type 0 → ℕ × ℕ → Type 0
+  Asking Within a = First refusal (limitNeeds b u o request Within) (HeldWithin limit b u o request) a
+
+  pub one-within : (Within : Type 0) (a c : ℕ × ℕ) → Asking Within a → Asking Within c → a ≡ c
+  one-within Within = one-first refusal (limitNeeds b u o request Within) (HeldWithin limit b u o request) one-held
+
+  -- Of two engines, where neither is.
+  pub same-within : {Within Within′ : Type 0} → Within → Within′ → (a c : ℕ × ℕ) → Asking Within a → Asking Within′ c → a ≡ c
+  unfolding limitNeeds blockNeeds
+  same-within {Within} {Within′} within within′ a c p q =
+      let ts = blockNeeds b ++ askNeeds u o request in
+      one-first refusal ts (HeldWithin limit b u o request) one-held a c
+      (without-last refusal ts ((14, Within) ∷ []) (HeldWithin limit b u o request) a (within, tt) p)
+      (without-last refusal ts ((14, Within′) ∷ []) (HeldWithin limit b u o request) c (within′, tt) q)
+
+  -- What an accepted answer says.
+  pub accepted-within : (Within : Type 0) (mask : ℕ) → Asking Within (0, mask)
+      → All (limitNeeds b u o request Within) × Limited Ordinary limit b u o request mask
+  unfolding limitNeeds blockNeeds
+  accepted-within Within mask h =
+      let r = first-passed refusal (HeldWithin limit b u o request) (0, mask) (λ a. a .0) (λ n. refl) (limitNeeds b u o request Within) (omega arith) refl h in
+      (r .0, r .1 .1)
+
+  -- ---- the main walk
+
+  pub one-held-to : (a c : ℕ × ℕ) → HeldTo b u o request limit a → HeldTo b u o request limit c → a ≡ c
+  unfolding HeldTo
+  one-held-to = one-within (limit ≤ chainLimit)
+
+  pub one-asks-to : (r s : Given) → AsksTo b u o request limit r → AsksTo b u o request limit s → r ≡ s
+  unfolding AsksTo
+  one-asks-to = given-once (HeldTo b u o request limit) one-held-to
+
+-- "the rights of the full question", which is held to 32, in the ordinary profile: the same number and the same rights.
+pub to-32 : (b : List ℕ) (u o request : ℕ) (a : ℕ × ℕ × ℕ × ℕ) (c : ℕ × ℕ) → Full b u o request ordinary a → HeldTo b u o request 32 c
+    → (a .0 ≡ c .0) × (a .1 ≡ c .1)
+unfolding Full HeldTo questionNeeds limitNeeds blockNeeds IsProfile profileOf Limited
+to-32 b u o request a c full held =
+    let ts = blockNeeds b ++ askNeeds u o request in
+    let p = without-last unreported ts (profileNeeds ordinary) (Reports Ordinary b u o request) a (inl refl, tt) full in
+    let q = without-last refusal ts ((14, 32 ≤ chainLimit) ∷ []) (HeldWithin 32 b u o request) c (omega arith, tt) held in
+    ⊎-elim
+    (λ r. (
+      ap (λ (t : ℕ × ℕ × ℕ × ℕ). t .0) (r .2) ∙ sym (ap (λ (t : ℕ × ℕ). t .0) (r .3)),
+      ap (λ (t : ℕ × ℕ × ℕ × ℕ). t .1) (r .2) ∙ sym (ap (λ (t : ℕ × ℕ). t .1) (r .3)),
+    ))
+    (λ r. (r .0 .0 ∙ sym (r .1 .0), mask-one (r .0 .1) (r .1 .1)))
+    (first-both unreported refusal ts (Reports Ordinary b u o request) (HeldWithin 32 b u o request) a c (omega arith) p q)
