@@ -90,7 +90,8 @@ fn limit_refusal(block: &[u8], limit: u64) -> u8
     0
 }
 
-// The question: what is refused, first by what every question needs; and else the requested rights that the user holds on the object, with chains of at most `limit` records.
+// The question: what is refused, first by what every question needs; and else the requested rights that the user holds on the object, with
+// chains of at most `limit` records.
 pub fn rights_within(block: &[u8], user: u64, object: u64, request: u64, limit: u64) -> Given
     ensures { λ r. ⌜ AsksWithin (now (block .entry)) user object request limit r ⌝ }
 {

@@ -25,7 +25,8 @@ fn in_no_group(block: &[u8], object: u16) -> bool
     true
 }
 
-// Does M record i make its id a group of hers? It can be the last of a chain to one, and its key is reached from the user with one record fewer, none of them counting N.
+// Does M record i make its id a group of hers? It can be the last of a chain to one, and its key is reached from the user with one record
+// fewer, none of them counting N.
 fn makes_hers(block: &[u8], user: u16, limit: u8, i: u16) -> bool
     requires { ⌜ Good (now block) × Of (now block) Membership i ⌝ }
     ensures { λ r. ⌜ Says (HersAt (now (block .entry)) user limit i) r ⌝ }

@@ -12,7 +12,8 @@ ghost use Rattle.index.specs.work.Checks.{Says};
 ghost use Rattle.rights.specs.Chain.{Chain};
 ghost use Rattle.plain.specs.work.Steps.{IsLink, Linked, Onward};
 
-// What each record of a chain must have: the right in its net mask; or, masks disregarded, it is a membership and does not count N, or just a membership.
+// What each record of a chain must have: the right in its net mask; or, masks disregarded, it is a membership and does not count N, or just a
+// membership.
 pub enum Link {
     Right(u8),
     WithoutN,
@@ -63,7 +64,8 @@ pub(crate) fn reached(block: &[u8], link: Link, from: u16, to: u16, left: u8) ->
     )
 }
 
-// Is it reached through one of the first n M records? The last of them, if it leads on from the name, asks the same of its id, with one record fewer; then come those before it.
+// Is it reached through one of the first n M records? The last of them, if it leads on from the name, asks the same of its id, with one record
+// fewer; then come those before it.
 fn through(block: &[u8], link: Link, from: u16, to: u16, left: u8, n: u16) -> bool
     requires { ⌜ Good (now block) × (IsLink link × ((0 < left) × (n ≤ size (now block) Membership))) ⌝ }
     ensures { λ r. ⌜ Says (Onward (now (block .entry)) link (left - 1) from to n) r ⌝ }

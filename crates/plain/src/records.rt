@@ -1,6 +1,6 @@
 // What one record says.
 
-ghost use Prim.Native.Nat.{ℕ, _<_};
+ghost use Prim.Native.Nat.{_<_};
 ghost use mathlib.Core.Path.{_≡_};
 ghost use Rattle.index.specs.Letters.{rightCount, markerN};
 ghost use Rattle.index.specs.Block.{countAt, NetAt};

@@ -10,7 +10,8 @@ ghost use Rattle.rights.specs.HeldTo.{AsksTo};
 // The greatest limit, which is the full question's.
 const LAST_LIMIT: u64 = LIMIT as u64;
 
-// The rights that the user holds on the object, with chains of at most `limit` records, limited to those requested: the full question's, if the limit is 32.
+// The rights that the user holds on the object, with chains of at most `limit` records, limited to those requested: the full question's, if
+// the limit is 32.
 pub fn rights_to(block: &[u8], user: u64, object: u64, request: u64, limit: u64) -> Given
     ensures { λ r. ⌜ AsksTo (now (block .entry)) user object request limit r ⌝ }
 {

@@ -112,8 +112,8 @@ pub(crate) fn opened(
     0
 }
 
-// The rights that the user holds on the object in the profile, with chains of at most `limit` records, limited to those requested; and the number of
-// M records that each side examines.
+// The rights that the user holds on the object in the profile, with chains of at most `limit` records, limited to those requested; and the
+// number of M records that each side examines.
 pub(crate) fn within(
     block: &[u8],
     directory: &[u16],

@@ -1,24 +1,21 @@
 -- From what the records say to what is granted, let through, open and held.
 use Prim.Native.Nat.{ℕ, _+_, _-_, _<_, _≤_}
-use mathlib.Core.Path.{_≡_, refl, sym, subst, _∙_}
-use mathlib.Core.Bool.{Bool}
+use mathlib.Core.Path.{_≡_, sym, subst}
 use mathlib.Core.List.{List}
-use mathlib.Core.Logic.{_⊎_, _↔_, inl, inr, ⊎-elim}
+use mathlib.Core.Logic.{_⊎_}
 use native.Mathlib.Omega.{arith}
 use Rattle.index.specs.declared.Kind.the-variants.{Membership, Permission, Filter}
 use Rattle.index.specs.Letters.{rightCount}
 use Rattle.index.specs.Block.{size, from, Of, key, id, Good, NetAt}
-use Rattle.index.specs.work.Checks.{Says}
-use Rattle.index.specs.work.Places.{At}
 use Rattle.rights.specs.Chain.{Chain}
-use Rattle.rights.specs.Groups.{Member, WithoutN, Closes, Hers, Bound, InNoGroup, InHers, Open}
+use Rattle.rights.specs.Groups.{Member, WithoutN, Closes, Hers, Open}
 use Rattle.rights.specs.Groups.Hers.{ends}
-use Rattle.rights.specs.Held.{Net, Carries, Looked, Passes, Holds}
+use Rattle.rights.specs.Held.{Carries, Looked, Passes, Holds}
 use Rattle.rights.proofs.laws.ByNumber.{at-self, is-where, is-at, net-at, net-where}
 use Rattle.rights.proofs.laws.held.Grouping.{hers-ends}
 use Rattle.rights.proofs.laws.held.Members.{member-where}
-use Rattle.plain.specs.work.Steps.{GrantsAt, Granted, NamesAt, HersAt}
-use Rattle.plain.proofs.laws.Records.{member-at, closes-at}
+use Rattle.plain.specs.work.Steps.{Granted, NamesAt, HersAt}
+use Rattle.plain.proofs.laws.Records.{closes-at}
 
 -- With chains of no records she has no group.
 hers-some : {b : List ℕ} {u n h : ℕ} → Hers b u n h → 0 < n

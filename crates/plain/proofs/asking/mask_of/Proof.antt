@@ -1,5 +1,5 @@
 -- `asking::mask_of` meets its contract: the four masks in their order.
-use Prim.Native.Nat.{ℕ, _^_}
+use Prim.Native.Nat.{_^_}
 use mathlib.Core.Path.{_≡_, refl}
 use mathlib.Core.List.{[], _∷_}
 use borrow.Author.Needs.{needs}

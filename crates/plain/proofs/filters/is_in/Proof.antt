@@ -1,10 +1,7 @@
 -- `filters::is_in` meets its contract. The loop's invariant: no M record so far names the group for the object.
 use Prim.Native.Nat.{ℕ, _-_, _<_, _≤_}
-use mathlib.Core.Path.{_≡_}
 use native.Mathlib.Omega.{arith}
 use borrow.Author.Needs.{needs}
-use Rattle.index.specs.declared.Kind.the-variants.{Membership}
-use Rattle.index.specs.Block.{size}
 use Rattle.index.proofs.laws.Answer.{yes-is, no-is}
 use Rattle.index.proofs.laws.Range.{from-none, from-more}
 use Rattle.plain.specs.work.Steps.{NamesAt}

@@ -1,5 +1,5 @@
 -- `filters::names` meets its contract: the group is the id, and the record leads on from the object.
-use mathlib.Core.Path.{_≡_, sym, _∙_}
+use mathlib.Core.Path.{sym, _∙_}
 use borrow.Author.Needs.{needs}
 use Rattle.index.proofs.laws.Answer.{says-same}
 use Rattle.plain.proofs.filters.names.Statement.{statement}

@@ -1,5 +1,5 @@
 -- `grants::grants` meets its contract: the net mask, the user's chain, and the object's.
-use Prim.Native.Nat.{ℕ, _<_}
+use Prim.Native.Nat.{ℕ}
 use mathlib.Core.Path.{_≡_, sym, subst}
 use mathlib.Core.Logic.{_⊎_}
 use borrow.Author.Needs.{needs}

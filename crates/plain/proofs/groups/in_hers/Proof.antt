@@ -1,6 +1,6 @@
 -- `groups::in_hers` meets its contract. The loop's invariant: no M record so far makes a group hers that is reached from the object.
 use Prim.Native.Nat.{ℕ, _-_, _<_, _≤_}
-use mathlib.Core.Path.{sym, subst, _∙_}
+use mathlib.Core.Path.{sym, subst}
 use mathlib.Core.Logic.{⊎-elim}
 use native.Mathlib.Omega.{arith}
 use borrow.Author.Needs.{needs}

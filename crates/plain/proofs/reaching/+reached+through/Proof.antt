@@ -1,7 +1,7 @@
 -- The two questions that call each other, `reaching::reached` and `reaching::through`, meet their contracts: the records left fall, and below them
 -- the records to go through. One step of each question is a law of its own (Reaching).
 use Prim.Native.Nat.{ℕ, _+_, _-_, _*_, _<_}
-use mathlib.Core.Path.{_≡_, sym, subst}
+use mathlib.Core.Path.{sym, subst}
 use mathlib.Core.Logic.{⊎-elim}
 use native.Mathlib.Omega.{arith}
 use borrow.Author.Needs.{needs}

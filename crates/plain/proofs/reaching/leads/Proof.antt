@@ -1,5 +1,5 @@
 -- `reaching::leads` meets its contract: the name is the key, and the record can be one of such a chain.
-use mathlib.Core.Path.{_≡_, sym, subst, _∙_}
+use mathlib.Core.Path.{sym, subst, _∙_}
 use borrow.Author.Needs.{needs}
 use Rattle.index.proofs.laws.Answer.{says-same}
 use Rattle.index.specs.Block.{id}

@@ -9,7 +9,7 @@ use borrow.Author.Tests.{not-true}
 use lib.ListN.{getD, replicate, getD-replicate}
 use Rattle.index.specs.declared.Kind.the-variants.{Membership}
 use Rattle.index.specs.Letters.{allRights, markerX}
-use Rattle.index.specs.Block.{nameCount, Of, Good, countAt}
+use Rattle.index.specs.Block.{nameCount, Good}
 use Rattle.index.specs.Calls.{CountsX}
 use Rattle.rights.specs.declared.walk.Carry.the-variants as carry
 use Rattle.rights.specs.Chain.{Chain}

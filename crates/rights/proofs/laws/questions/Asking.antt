@@ -1,15 +1,11 @@
 -- From the rights reached, the filters and the request to the rights held.
-use Prim.Native.Nat.{ℕ, suc, _^_, _<_, _≤_}
-use mathlib.Core.Path.{_≡_, refl}
-use mathlib.Core.List.{List, [], _++_}
+use Prim.Native.Nat.{ℕ, _^_, _<_, _≤_}
+use mathlib.Core.Path.{_≡_}
+use mathlib.Core.List.{List}
 use mathlib.Core.Logic.{_↔_, ⊎-elim}
 use native.Mathlib.Omega.{arith}
 use Rattle.index.specs.declared.Kind.the-variants.{Permission}
 use Rattle.index.specs.Letters.{rightCount, In, Mask}
-use Rattle.index.specs.Numbers.{First, Answers}
-use Rattle.index.specs.Block.{Sized, Good, IsName}
-use Rattle.index.specs.Calls.{blockNeeds}
-use Rattle.index.proofs.laws.Firsts.{all-hold, refuses, refused-first, passed-first}
 use Rattle.index.proofs.laws.block.Masks.{mask-map, mask-covers}
 use Rattle.index.proofs.laws.Range.{lt-or-le}
 use Rattle.index.proofs.laws.block.MayHave.{some-letter, no-letter}
@@ -17,9 +13,9 @@ use Rattle.rights.specs.Groups.{Open}
 use Rattle.rights.specs.declared.Profile.{Profile}
 use Rattle.rights.specs.declared.Profile.the-variants.{Ordinary, Strict}
 use Rattle.rights.specs.Held.{Net, chainLimit, Passes, Holds}
-use Rattle.rights.specs.Profiles.{Denies, Barred, HoldsIn, IsProfile}
+use Rattle.rights.specs.Profiles.{Denies, Barred, HoldsIn}
 use Rattle.rights.specs.work.Between.{Led, GrantedIn}
-use Rattle.rights.specs.Questions.{askNeeds, profileNeeds, questionNeeds, Limited, HoldsAll}
+use Rattle.rights.specs.Questions.{Limited, HoldsAll}
 
 -- A right is held as before where it is reached and passes the filters, on an object that is open to the user,
 pub before : (n : ℕ) (b : List ℕ) (u o k : ℕ) → (Led n b u o (Net b Permission) k × Passes b o k × Open n b u o) ↔ Holds n b u o k

@@ -1,11 +1,11 @@
 -- M-112: the two profiles beside each other, and 15, which is last.
 use Prim.Native.Nat.{ℕ, _+_, _<_}
-use mathlib.Core.Path.{_≡_, refl, ap, _∙_}
+use mathlib.Core.Path.{_≡_, refl, ap}
 use mathlib.Core.List.{List, [], _∷_, _++_}
 use mathlib.Core.Logic.{_↔_, inl, inr}
 use native.Mathlib.Omega.{arith}
 use Rattle.index.specs.declared.Kind.the-variants.{Permission}
-use Rattle.index.specs.Letters.{rightCount, In}
+use Rattle.index.specs.Letters.{rightCount}
 use Rattle.index.specs.Numbers.{First}
 use Rattle.index.specs.Block.{count}
 use Rattle.index.specs.Calls.{blockNeeds}

@@ -9,7 +9,7 @@ use Rattle.rights.specs.declared.Answer.the-variants.{Yes, No}
 use Rattle.rights.specs.Groups.{Open}
 use Rattle.rights.specs.Held.{chainLimit}
 use Rattle.rights.specs.Profiles.{IsProfile, profileOf}
-use Rattle.rights.specs.Questions.{questionNeeds, HoldsAll, Answered, Short, AsksAll}
+use Rattle.rights.specs.Questions.{questionNeeds, HoldsAll, Short, AsksAll}
 use Rattle.rights.specs.work.Between.{GrantedIn}
 use Rattle.rights.proofs.laws.held.Grouping.{open-free}
 use Rattle.rights.proofs.laws.questions.Asking.{filtered, granted-all, held-all, open-all}

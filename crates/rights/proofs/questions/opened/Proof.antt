@@ -1,5 +1,4 @@
 -- `questions::opened` meets its contract: the rights, or none.
-use Prim.Native.Nat.{ℕ}
 use borrow.Author.Needs.{needs}
 use Rattle.index.specs.Letters.{In, Mask}
 use Rattle.index.proofs.laws.Answer.{yes-is, no-is}
