@@ -7,7 +7,7 @@ use Rattle.index.specs.Numbers.{First}
 use Rattle.index.specs.Block.{size}
 use Rattle.rights.specs.declared.Given.{Given}
 use Rattle.rights.specs.Questions.{GivenMeans}
-use Rattle.rights.specs.HeldTo.{limitNeeds, HeldWithin, HeldTo}
+use Rattle.rights.specs.HeldTo.{limitNeeds, HeldWithin, AsksTo}
 
 -- "a chain limit of 0 to 8"
 abbrev pub greatestLimit : ℕ
@@ -30,9 +30,9 @@ Within b u o request limit a =
 unfoldable pub AsksWithin : List ℕ → ℕ → ℕ → ℕ → ℕ → Given → Type 0
 AsksWithin b u o request limit r = GivenMeans (Within b u o request limit) r
 
--- "proved equal to the main walk held to that limit": on every block, user, object and request, where 14 is not due, both engines give the same
--- number and the same rights.
+-- "proved equal to the main walk held to that limit": on every block, user, object and request, where 14 is not due of the plain engine, what it
+-- promises to answer and what `rights_to` promises are the same answer, a refusal too.
 abbrev pub EnginesAgree : Type 0
 EnginesAgree =
-    (b : List ℕ) (u o request limit : ℕ) (a a′ : ℕ × ℕ) → limit ≤ greatestLimit → size b Membership ≤ mostRecords
-    → Within b u o request limit a → HeldTo b u o request limit a′ → a ≡ a′
+    (b : List ℕ) (u o request limit : ℕ) (r s : Given) → limit ≤ greatestLimit → size b Membership ≤ mostRecords
+    → AsksWithin b u o request limit r → AsksTo b u o request limit s → r ≡ s

@@ -1,12 +1,14 @@
 -- M-111: "proved equal to the main walk held to that limit", since both promise the same rights; and the plain engine has one answer.
-use Prim.Native.Nat.{ℕ}
+use Prim.Native.Nat.{ℕ, _≤_}
 use mathlib.Core.Path.{_≡_}
 use mathlib.Core.List.{List}
 use native.Mathlib.Omega.{arith}
+use Rattle.index.specs.declared.Kind.the-variants.{Membership}
+use Rattle.index.specs.Block.{size}
 use Rattle.rights.specs.declared.Given.{Given}
-use Rattle.rights.specs.HeldTo.{HeldTo}
-use Rattle.rights.proofs.laws.questions.Limits.{given-once, one-within, same-within}
-use Rattle.plain.specs.Plain.{Small, Within, AsksWithin, EnginesAgree}
+use Rattle.rights.specs.HeldTo.{HeldTo, AsksTo}
+use Rattle.rights.proofs.laws.questions.Limits.{given-same, one-within, same-within}
+use Rattle.plain.specs.Plain.{greatestLimit, mostRecords, Small, Within, AsksWithin, EnginesAgree}
 
 module _ (b : List ℕ) (u o request limit : ℕ) where
   pub one-plain : (a c : ℕ × ℕ) → Within b u o request limit a → Within b u o request limit c → a ≡ c
@@ -15,8 +17,15 @@ module _ (b : List ℕ) (u o request limit : ℕ) where
 
   pub one-asks-within : (r s : Given) → AsksWithin b u o request limit r → AsksWithin b u o request limit s → r ≡ s
   unfolding AsksWithin
-  one-asks-within = given-once (Within b u o request limit) one-plain
+  one-asks-within = given-same (Within b u o request limit) (Within b u o request limit) one-plain
+
+-- The outcomes, and the answers of the code as the two public functions promise them.
+pub outcomes-agree : (b : List ℕ) (u o request limit : ℕ) → limit ≤ greatestLimit → size b Membership ≤ mostRecords → (a c : ℕ × ℕ)
+    → Within b u o request limit a → HeldTo b u o request limit c → a ≡ c
+unfolding Within HeldTo
+outcomes-agree b u o request limit few small a c p q = same-within b u o request limit (few, small) (omega (arith, few)) a c p q
 
 pub engines-agree : EnginesAgree
-unfolding Within HeldTo
-engines-agree b u o request limit a a′ few small p q = same-within b u o request limit (few, small) (omega (arith, few)) a a′ p q
+unfolding AsksWithin AsksTo
+engines-agree b u o request limit r s few small p q =
+    given-same (Within b u o request limit) (HeldTo b u o request limit) (outcomes-agree b u o request limit few small) r s p q

@@ -32,12 +32,12 @@ given-back Outcome (given.Mask m) p = ((0, m), p, refl)
 given-back Outcome (given.Refused ℕ.zero) p = absurd (omega (arith, p .0))
 given-back Outcome (given.Refused (suc n)) p = ((suc n, 0), p .1, refl)
 
-pub given-once : (Outcome : ℕ × ℕ → Type 0) → ((a c : ℕ × ℕ) → Outcome a → Outcome c → a ≡ c) → (r s : Given)
-    → GivenMeans Outcome r → GivenMeans Outcome s → r ≡ s
-given-once Outcome one r s p q =
-    let x = given-back Outcome r p in
-    let y = given-back Outcome s q in
-    sym (x .2) ∙ ap givenOf (one (x .0) (y .0) (x .1) (y .1)) ∙ y .2
+-- Two calls whose outcomes are the same give the same answer.
+pub given-same : (P Q : ℕ × ℕ → Type 0) → ((a c : ℕ × ℕ) → P a → Q c → a ≡ c) → (r s : Given) → GivenMeans P r → GivenMeans Q s → r ≡ s
+given-same P Q same r s p q =
+    let x = given-back P r p in
+    let y = given-back Q s q in
+    sym (x .2) ∙ ap givenOf (same (x .0) (y .0) (x .1) (y .1)) ∙ y .2
 
 module _ (b : List ℕ) (u o request limit : ℕ) where
   one-held : (a c : ℕ × ℕ) → HeldWithin limit b u o request a → HeldWithin limit b u o request c → a ≡ c
@@ -79,7 +79,7 @@ module _ (b : List ℕ) (u o request limit : ℕ) where
 
   pub one-asks-to : (r s : Given) → AsksTo b u o request limit r → AsksTo b u o request limit s → r ≡ s
   unfolding AsksTo
-  one-asks-to = given-once (HeldTo b u o request limit) one-held-to
+  one-asks-to = given-same (HeldTo b u o request limit) (HeldTo b u o request limit) one-held-to
 
 -- "the rights of the full question", which is held to 32, in the ordinary profile: the same number and the same rights.
 pub to-32 : (b : List ℕ) (u o request : ℕ) (a : ℕ × ℕ × ℕ × ℕ) (c : ℕ × ℕ) → Full b u o request ordinary a → HeldTo b u o request 32 c
