@@ -1,6 +1,6 @@
 /* One question, followed with a finger through the plain engine: may planner-7 create on order-4711, with chains of at most 3 records,
- * and of at most 2? Each function from counts to holds is the engine's function of that name, with the same tests in the same order.
- * The engine is silent; these say what they ask and find, as docs/PLAIN.md shows. At the end they are held against anaqsiro_plain. */
+ * and of at most 2? Each function from counts to rights_within is the engine's function of that name, with the same tests in the same
+ * order. The engine is silent; these say what they ask and find, as docs/PLAIN.md shows. At the end they are held against anaqsiro_plain. */
 #include "anaqsiro.h"
 
 #include <stdbool.h>
@@ -10,7 +10,7 @@ enum { ROOM = 10, PLANNER_7 = 7, PLANNERS = 10, MAINTENANCE, LINE_2 = 20, HALL_1
 
 /* Letters have numbers: four rights, their denials, X, N. A link, which says what each record of a chain must have, is a right or one
  * of two more. At a depth below 0, as from SILENT on, nothing is said. */
-enum { CREATE, RIGHTS = 4, X = 8, N, WITHOUT_N = RIGHTS, MEMBER, SILENT = -1000 };
+enum { RIGHTS = 4, X = 8, N, WITHOUT_N = RIGHTS, MEMBER, SILENT = -1000 };
 
 static const char *const named[ANAQSIRO_NAMES] = {
     [PLANNER_7] = "planner-7", [PLANNERS] = "planners", [MAINTENANCE] = "maintenance", [LINE_2] = "line-2",
@@ -121,7 +121,7 @@ static bool passes(unsigned object, unsigned right, int depth) {
     bool passed = true;
     SAY(depth, "passes: does every filter of %s let it through?", named[object]);
     for (; i < end && passed; i++) {
-        SAY(depth + 1, "record %u %s", i, has_right(i, right) ? "has it" : "has it not");
+        SAY(depth + 1, "record %u %s", i, has_right(i, right) ? "has it" : "does not have it");
         passed = has_right(i, right) || !is_looked_at(object, key_of(i), depth + 1);
     }
     return answer(depth, passed);
@@ -133,7 +133,7 @@ static bool counts_for(unsigned object, unsigned name, unsigned right, unsigned 
 }
 
 static bool grants(unsigned user, unsigned object, unsigned right, unsigned limit, unsigned i, int depth) {
-    say_of(depth, "grants: does ", i, " (", ") grant it? ", has_right(i, right) ? "It has the right" : "It has not the right");
+    say_of(depth, "grants: does ", i, " (", ") grant it? ", has_right(i, right) ? "It has the right" : "It does not have the right");
     return answer(depth, has_right(i, right) && reached(right, user, id_of(i), limit, depth + 1) &&
                              counts_for(object, key_of(i), right, limit, depth + 1));
 }
@@ -183,21 +183,82 @@ static bool is_open(unsigned user, unsigned object, unsigned limit, int depth) {
 }
 
 static bool holds(unsigned user, unsigned object, unsigned right, unsigned limit, int depth) {
-    SAY(depth, "May %s %s on %s, with chains of at most %u records?", named[user], rights[right], named[object], limit);
+    SAY(depth, "holds: may %s %s on %s, with chains of at most %u records?", named[user], rights[right], named[object], limit);
     return answer(depth, passes(object, right, depth + 1) && granted(user, object, right, limit, depth + 1) &&
                              is_open(user, object, limit, depth + 1));
 }
 
-/* Does anaqsiro_plain answer the same, for every right and every limit? */
+static bool is_requested(unsigned request, unsigned right) { return (request >> right & 1) == 1; }
+static bool is_given(unsigned user, unsigned object, unsigned request, unsigned right, unsigned limit, int depth) {
+    const bool requested = is_requested(request, right);
+    SAY(depth, "is_given: is %s requested, and held?%s", rights[right], requested ? "" : " It is not requested");
+    return answer(depth, requested && holds(user, object, right, limit, depth + 1));
+}
+
+static unsigned held(unsigned user, unsigned object, unsigned request, unsigned limit, int depth) {
+    unsigned mask = 0;
+    SAY(depth, "held: which of the requested rights does %s hold?", named[user]);
+    for (unsigned right = 0; right < RIGHTS; right++) {
+        mask |= (unsigned)is_given(user, object, request, right, limit, depth + 1) << right;
+    }
+    return mask;
+}
+
+/* Says the rights, or the number of the refusal, and returns what anaqsiro_plain does. */
+static uint64_t given(int depth, uint64_t number, unsigned mask) {
+    char letters[ANAQSIRO_LETTERS + 1];
+    if (number != ANAQSIRO_ACCEPTED) {
+        SAY(depth + 1, "refused with %u", (unsigned)number);
+    } else {
+        SAY(depth + 1, "%s", mask == 0 ? "none" : anaqsiro_put_letters(letters, mask));
+    }
+    return number << 32 | mask;
+}
+
+/* 1 and 2 of the block, 4 of the names, 5 of the request: the first that is due, or 0. */
+static uint64_t ask_refusal(unsigned user, unsigned object, unsigned request, int depth) {
+    const bool fair = user < ANAQSIRO_NAMES && object < ANAQSIRO_NAMES;
+    const uint64_t tested = anaqsiro_number(anaqsiro_tested(block, sizeof block));
+    const uint64_t number = tested != 0 ? tested : !fair ? ANAQSIRO_NAME : request == 0 || request > ANAQSIRO_ALL ? ANAQSIRO_MASK : 0;
+    SAY(depth, "ask_refusal: is it refused with 1, 2, 4 or 5?");
+    answer(depth, number != 0);
+    return number;
+}
+
+static uint64_t limit_refusal(unsigned limit, int depth) {
+    const unsigned records = size_of(ANAQSIRO_MEMBERSHIP);
+    const bool refused = limit > ANAQSIRO_PLAIN_LIMIT_MAX || records > ANAQSIRO_PLAIN_RECORDS_MAX;
+    SAY(depth, "limit_refusal: is it refused with 14? The limit is %u, and there are %u M records", limit, records);
+    return answer(depth, refused) ? ANAQSIRO_LIMIT : ANAQSIRO_ACCEPTED;
+}
+
+static uint64_t rights_within(unsigned user, unsigned object, unsigned request, unsigned limit, int depth) {
+    char letters[ANAQSIRO_LETTERS + 1];
+    SAY(depth, "rights_within: which of %s does %s hold on %s, with chains of at most %u records?", anaqsiro_put_letters(letters, request),
+        named[user], named[object], limit);
+    const uint64_t first = ask_refusal(user, object, request, depth + 1);
+    if (first != 0) {
+        return given(depth, first, 0);
+    }
+    const uint64_t last = limit_refusal(limit, depth + 1);
+    if (last != 0) {
+        return given(depth, last, 0);
+    }
+    return given(depth, 0, held(user, object, request, limit, depth + 1));
+}
+
+/* Does anaqsiro_plain answer the same, for every request and every limit, one too great among them? */
 static bool is_same(unsigned user) {
-    for (unsigned n = 0; n < RIGHTS * (ANAQSIRO_PLAIN_LIMIT_MAX + 1); n++) {
-        const unsigned right = n % RIGHTS, limit = n / RIGHTS, mask = 1u << right;
-        const uint64_t here = holds(user, ORDER_4711, right, limit, SILENT) ? mask : 0;
-        const uint64_t plain = anaqsiro_plain(block, sizeof block, user, ORDER_4711, mask, limit);
-        if (here != plain) {
-            printf("%s, %s, limit %u: here %s, ", named[user], rights[right], limit, here != 0 ? "yes" : "no");
-            printf("but anaqsiro_plain gives the number %u and the rights %u\n", anaqsiro_number(plain), anaqsiro_held(plain));
-            return false;
+    for (unsigned request = 0; request <= ANAQSIRO_ALL; request++) {
+        for (unsigned limit = 0; limit <= ANAQSIRO_PLAIN_LIMIT_MAX + 1; limit++) {
+            const uint64_t here = rights_within(user, ORDER_4711, request, limit, SILENT);
+            const uint64_t plain = anaqsiro_plain(block, sizeof block, user, ORDER_4711, request, limit);
+            if (here != plain) {
+                printf("%s, request %u, limit %u: here the number %u and the rights %u, ", named[user], request, limit,
+                       anaqsiro_number(here), anaqsiro_held(here));
+                printf("but anaqsiro_plain gives %u and %u\n", anaqsiro_number(plain), anaqsiro_held(plain));
+                return false;
+            }
         }
     }
     return true;
@@ -209,11 +270,11 @@ int main(void) {
         const bool p = i >= size_of(ANAQSIRO_MEMBERSHIP), f = i >= size_of(ANAQSIRO_MEMBERSHIP) + size_of(ANAQSIRO_PERMISSION);
         say_of(1, "", i, f ? ": F " : p ? ": P " : ": M ", "", "");
     }
-    holds(PLANNER_7, ORDER_4711, CREATE, 3, 0);
-    holds(PLANNER_7, ORDER_4711, CREATE, 2, 0);
+    rights_within(PLANNER_7, ORDER_4711, ANAQSIRO_CREATE, 3, 0);
+    rights_within(PLANNER_7, ORDER_4711, ANAQSIRO_CREATE, 2, 0);
     if (!is_same(PLANNER_7) || !is_same(PLANNERS) || !is_same(MAINTENANCE)) {
         return 1;
     }
-    printf("anaqsiro_plain answers the same: planner-7, planners and maintenance as users, every right, every limit from 0 to 8\n");
+    printf("anaqsiro_plain answers the same: planner-7, planners and maintenance as users, every request, every limit from 0 to 9\n");
     return 0;
 }

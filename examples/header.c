@@ -103,7 +103,7 @@ static void test_refusals(void) {
                "a 257th appointment, a date that is none, or a day, date, term or anniversary outside the range");
     same_words("13", anaqsiro_refusal_text(13), "the lent directory has the wrong length or is not the block's own");
     same_words("14", anaqsiro_refusal_text(14),
-               "a limit above 8 or more than 64 membership records for the plain engine; a limit above 32");
+               "for the plain engine a limit above 8 or more than 64 membership records; for the walk a limit above 32");
     same_words("15", anaqsiro_refusal_text(15), "a profile other than ordinary or strict");
     same_words("16", anaqsiro_refusal_text(ANAQSIRO_PROFILE + 1), "unknown");
     same_words("2^32", anaqsiro_refusal_text((uint64_t)1 << 32), "unknown");

@@ -271,7 +271,7 @@ static void measure_slips(void) {
 
 /* A name that is a member of itself, by the first of as many memberships as the plain engine takes. Its frames are one for each record
  * that it goes through, so that it goes deepest where the first record of all leads on, each time: here, for what is granted to a name
- * that is not reached. What is granted to the user herself is the value. */
+ * that is not reached, and on one that is not. What is granted to the user herself, on herself, is the value. */
 static void make_loop(void) {
     anaqsiro_make(block, sizeof block);
     for (unsigned name = 1; name <= ANAQSIRO_PLAIN_RECORDS_MAX; name++) {
@@ -279,6 +279,7 @@ static void make_loop(void) {
     }
     add(ANAQSIRO_PERMISSION, 1, 1, ANAQSIRO_UPDATE);
     add(ANAQSIRO_PERMISSION, 1, 2, ANAQSIRO_ALL);
+    add(ANAQSIRO_PERMISSION, 2, 1, ANAQSIRO_ALL);
 }
 
 /* The walk with the greatest limit: a right is granted at the ends of both chains alone, and what makes the group there hers is as long a

@@ -415,8 +415,8 @@ uint64_t anaqsiro_check_slip(const uint8_t *block, size_t len, uint64_t user, ui
 
 /* ---- the calls with a limit
  *
- * Both give the rights of the full question in the ordinary profile, with every chain held to at most so many membership records as
- * the limit says. anaqsiro_plain is the plain engine, for a support desk that wants to follow a question with a finger: one function
+ * Both give the rights of the full question in the ordinary profile, with no more membership records in any chain than the limit
+ * says. anaqsiro_plain is the plain engine, for a support desk that wants to follow a question with a finger: one function
  * asks whether a name is reached with so many records left, another goes through that name's records and asks the first, with one
  * fewer (docs/PLAIN.md goes through a question line by line). anaqsiro_rights_to is the walk of the other questions, held to the
  * limit.
@@ -436,8 +436,8 @@ uint64_t anaqsiro_check_slip(const uint8_t *block, size_t len, uint64_t user, ui
 
 /* The rights that the user holds on the object, of those requested, with every chain held to the limit, 0 to
  * ANAQSIRO_PLAIN_LIMIT_MAX. It goes through every chain and keeps no marks, so that it may take very long where there are many: 64
- * membership records that make each of 8 names a member of all 8 give 8^8 chains, 16,777,216, for each permission record at limit 8.
- * It is for small blocks that are looked into. A greater limit is refused with 14, and so is a block with more than
+ * membership records that make each of 8 names a member of all 8 give 8^8 chains at limit 8, 16,777,216, for each requested right and
+ * each permission record that has it, where the answer is no. It is for small blocks that are looked into. A greater limit is refused with 14, and so is a block with more than
  * ANAQSIRO_PLAIN_RECORDS_MAX membership records, those with marker counts alone among them. Numbers 0, 1, 2, 4, 5, 14. Value: the
  * rights. */
 uint64_t anaqsiro_plain(const uint8_t *block, size_t len, uint64_t user, uint64_t object, uint64_t request, uint64_t limit);
@@ -531,7 +531,7 @@ static inline const char *anaqsiro_refusal_text(uint64_t number) {
         return "a 257th appointment, a date that is none, or a day, date, term or anniversary outside the range";
     case ANAQSIRO_DIRECTORY_NOT_OWN: return "the lent directory has the wrong length or is not the block's own";
     case ANAQSIRO_LIMIT:
-        return "a limit above 8 or more than 64 membership records for the plain engine; a limit above 32";
+        return "for the plain engine a limit above 8 or more than 64 membership records; for the walk a limit above 32";
     case ANAQSIRO_PROFILE: return "a profile other than ordinary or strict";
     default: return "unknown";
     }

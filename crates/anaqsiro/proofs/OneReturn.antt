@@ -1,9 +1,10 @@
 -- No second number and no second bytes satisfy the promise of the same call, but for which slip is found.
-use Prim.Native.Nat.{ℕ, _/_, _%_}
+use Prim.Native.Nat.{ℕ, _/_, _%_, _≤_}
 use mathlib.Core.Path.{_≡_, sym, ap, _∙_}
 use mathlib.Core.List.{List, [], _∷_}
 use mathlib.Core.Logic.{_⊎_, inl, inr, ⊎-elim}
 use native.Mathlib.Omega.{arith}
+use Rattle.index.specs.declared.Kind.the-variants.{Membership}
 use Rattle.index.specs.Numbers.{Answers}
 use Rattle.index.specs.Block.{size}
 use Rattle.index.specs.Message.{IsKind, kindOf}
@@ -17,11 +18,11 @@ use Rattle.directory.specs.By.{MakesDirectory, SendsBy, ReadBy, WriteBy}
 use Rattle.directory.proofs.OneBy.{one-made, one-sent-by, one-read-by, one-write-by}
 use Rattle.rights.specs.Questions.{Full, Short, FullBy, ShortBy}
 use Rattle.rights.specs.HeldTo.{HeldTo}
-use Rattle.plain.specs.Plain.{Within}
+use Rattle.plain.specs.Plain.{greatestLimit, mostRecords, Within}
 use Rattle.rights.proofs.laws.questions.OneAnswer.{one-full, one-short}
 use Rattle.rights.proofs.laws.questions.SameAnswers.{one-full-by, one-short-by}
 use Rattle.rights.proofs.laws.questions.Limits.{one-held-to}
-use Rattle.plain.proofs.laws.EnginesAgree.{one-plain}
+use Rattle.plain.proofs.laws.EnginesAgree.{one-plain, as-walked}
 use Rattle.slips.specs.Calls.{ChecksSlip, Outcome, Found}
 use Rattle.slips.proofs.laws.OneSlip.{one-check, two-finds}
 use Rattle.calendar.specs.declared.Date.{Date}
@@ -155,6 +156,14 @@ module _ (b : List ℕ) (u o request limit : ℕ) where
   pub one-plain-return : (r r₂ : ℕ) → PlainReturns b u o request limit r → PlainReturns b u o request limit r₂ → r ≡ r₂
   unfolding PlainReturns
   one-plain-return = one-answer (Within b u o request limit) (one-plain b u o request limit)
+
+  -- Where 14 is not due of the plain engine, both return the same.
+  pub same-return : limit ≤ greatestLimit → size b Membership ≤ mostRecords → (r r₂ : ℕ) → PlainReturns b u o request limit r
+      → RightsToReturns b u o request limit r₂ → r ≡ r₂
+  unfolding PlainReturns RightsToReturns
+  same-return few small r r₂ p q =
+      one-answer (HeldTo b u o request limit) (one-held-to b u o request limit) r r₂
+      (p .0, p .1, p .2, as-walked b u o request limit few small (p .0, p .1) (p .3)) q
 
 -- ---- M-106: by a directory
 

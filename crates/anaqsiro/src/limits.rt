@@ -1,4 +1,4 @@
-// The C interface of the two engines that hold the rights to a limit of the chains.
+// The C interface of the two engines whose chains are held to a limit.
 
 use crate::packed;
 use rights::Given;

@@ -77,7 +77,7 @@ fn held(block: &[u8], user: u16, object: u16, request: u8, limit: u8) -> u8
     rights
 }
 
-// Is 14 due, or 0? The limit is above 8, or the block has more than 64 M records.
+// Is the question refused with 14? It is, if the limit is above 8, or the block has more than 64 M records; else the number is 0.
 fn limit_refusal(block: &[u8], limit: u64) -> u8
     ensures { λ r. ⌜ Answers ((14, Small (now (block .entry)) limit) ∷ []) r ⌝ }
 {
@@ -90,16 +90,16 @@ fn limit_refusal(block: &[u8], limit: u64) -> u8
     0
 }
 
-// The question: what is refused, first by what every question needs; and else the requested rights that the user holds on the object, with
-// chains of at most `limit` records.
+// Which of the requested rights does the user hold on the object, with chains of at most `limit` records? Or by which number is the question
+// refused: 1, 2, 4 or 5, and then 14?
 pub fn rights_within(block: &[u8], user: u64, object: u64, request: u64, limit: u64) -> Given
     ensures { λ r. ⌜ AsksWithin (now (block .entry)) user object request limit r ⌝ }
 {
     let first = rights::ask_refusal(block, user, object, request);
-    let last = limit_refusal(block, limit);
     if first != 0 {
         return Given::Refused(first);
     }
+    let last = limit_refusal(block, limit);
     if last != 0 {
         return Given::Refused(last);
     }

@@ -9,8 +9,8 @@ mod records;
 
 pub use crate::asking::rights_within;
 
-// The greatest limit of a chain.
+// The greatest limit that the engine takes.
 pub const LIMIT: u64 = 8;
 
-// A block has at most so many M records.
+// It takes a block with at most so many M records.
 pub const MOST: u16 = 64;

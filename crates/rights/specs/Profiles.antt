@@ -18,8 +18,8 @@ unfoldable pub Denies : List ℕ → ℕ → ℕ → ℕ → Type 0
 Denies b g s k = (k < rightCount) × (0 < count b Permission g s (k + rightCount))
 
 -- "a right is barred when a P record counts its small letter above zero and is reached for that right from both sides, as a grant would be":
--- by the same chains for that right, of at most n records, and on name 0 for every object. Filters and exclusive groups have no part in it; they are part of
--- "granted as before".
+-- by the same chains for that right, of at most n records, and on name 0 for every object. Filters and exclusive groups have no part in it; they
+-- are part of "granted as before".
 pub record Barred (n : ℕ) (b : List ℕ) (u o k : ℕ) : Type 0 where
   pub s : ℕ
   pub g : ℕ

@@ -27,9 +27,12 @@ askNeeds u o request = (4, IsName u × IsName o) ∷ (5, (1 ≤ request) × (req
 abbrev pub profileNeeds : ℕ → List (ℕ × Type 0)
 profileNeeds profile = (15, IsProfile profile) ∷ []
 
--- Before them come 1 and 2 of the block.
+-- Before them come 1 and 2 of the block. Last of all a question has one requirement more, with its number.
+abbrev pub lastNeeds : List ℕ → ℕ → ℕ → ℕ → ℕ → Type 0 → List (ℕ × Type 0)
+lastNeeds b u o request number Last = blockNeeds b ++ (askNeeds u o request ++ ((number, Last) ∷ []))
+
 unfoldable pub questionNeeds : List ℕ → ℕ → ℕ → ℕ → ℕ → List (ℕ × Type 0)
-questionNeeds b u o request profile = blockNeeds b ++ (askNeeds u o request ++ profileNeeds profile)
+questionNeeds b u o request profile = lastNeeds b u o request 15 (IsProfile profile)
 
 -- "the rights held, limited to the rights requested", in a profile, with chains of at most n records
 unfoldable pub Limited : Profile → ℕ → List ℕ → ℕ → ℕ → ℕ → ℕ → Type 0

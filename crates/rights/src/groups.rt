@@ -108,7 +108,7 @@ fn in_hers(block: &[u8], directory: &[u16], user: usize, object: usize, limit: u
     meets(block, &users, &objects)
 }
 
-// The object is open to the user. (Where no record counts X nobody is bound, and neither question asks.)
+// The object is open to the user. (Where no record counts X nobody is bound, and it is not asked.)
 pub(crate) fn is_open(
     block: &[u8],
     directory: &[u16],

@@ -43,7 +43,7 @@ fn profile_of(n: u64) -> Profile
     Profile::Strict
 }
 
-// The number of the first requirement that does not hold of the names and the request of a question, or 0.
+// 4 for a name, 5 for the request of a question: the first that is due, or 0.
 fn name_refusal(user: u64, object: u64, request: u64) -> u8
     ensures { λ r. ⌜ Answers (askNeeds user object request) r ⌝ }
 {

@@ -20,7 +20,7 @@ use Rattle.plain.proofs.laws.EnginesAgree.{one-plain}
 use Rattle.tight.specs.Blocks.{nothing, reads}
 use Rattle.tight.specs.Examples.{far}
 use Rattle.tight.specs.Limits.{Engine, Promises, up, crowd}
-use Rattle.tight.specs.LimitPrograms.{LimitProgram, LimitMeets, RefusesEverything, GrantsTheSame, HoldsTo, KeepsTheLimit, OneMore, OpensTo, KeepsMarkersTheLimit, OneMoreMarker, TakesAny}
+use Rattle.tight.specs.LimitPrograms.{LimitProgram, LimitMeets, RefusesEverything, GrantsTheSame, HoldsTo, StaysAt32, OneMore, OpensTo, MarkersStayAt32, OneMoreMarker, TakesAny}
 use Rattle.tight.proofs.LimitTable.{direct-right, carried-right, marked-right, further-right, crowded-right}
 
 -- No second answer meets the promise of either engine.
@@ -73,13 +73,13 @@ module _ (p : LimitProgram) (meets : LimitMeets p) where
         let opened = rw (gives e (marked-right .1 .1 .1 .1 .1 .0 e)) at (wrong (far 2) 100 99 15 1 1) in
         closed (opened refl)
 
-  pub lowers-the-limit : KeepsTheLimit p → ⊥
+  pub lowers-the-limit : StaysAt32 p → ⊥
   lowers-the-limit = holds-to (λ limit. chainLimit) (by-two .1)
 
   pub not-one-more : OneMore p → ⊥
   not-one-more = holds-to suc (by-two .0)
 
-  pub lowers-markers : KeepsMarkersTheLimit p → ⊥
+  pub lowers-markers : MarkersStayAt32 p → ⊥
   lowers-markers = opens-to (λ limit. chainLimit) (shut .1)
 
   pub not-one-marker-more : OneMoreMarker p → ⊥

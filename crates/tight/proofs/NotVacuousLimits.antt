@@ -1,51 +1,61 @@
 -- Each number that M-111 gives to a call is given for some input, and 14 is the last.
-use Prim.Native.Nat.{ℕ, _<_}
-use mathlib.Core.Path.{refl}
-use mathlib.Core.List.{List, []}
+use Prim.Native.Nat.{ℕ}
+use mathlib.Core.Path.{_≡_, refl}
+use mathlib.Core.List.{[]}
 use mathlib.Core.Logic.{inl, inr}
 use native.Mathlib.Omega.{arith}
-use Rattle.index.specs.Numbers.{Answers, Each}
+use Rattle.index.specs.Numbers.{Each}
 use Rattle.index.specs.Block.{nameCount, number, Sized}
 use Rattle.index.specs.Calls.{blockNeeds}
-use Rattle.index.proofs.laws.Firsts.{refuses}
-use Rattle.rights.specs.HeldTo.{limitNeeds}
+use Rattle.rights.specs.HeldTo.{limitNeeds, HeldWithin}
+use Rattle.rights.specs.Questions.{askNeeds}
+use Rattle.rights.proofs.laws.questions.Requiring.{refused-every}
 use Rattle.tight.specs.Blocks.{zeros, nothing}
 use Rattle.tight.specs.Limits.{Engine}
-use Rattle.tight.specs.EachNumber.{EngineGives, AnyLimitGives, beforeLimit, engineNumbers}
-use Rattle.tight.proofs.NotVacuous.{not-zero, past-block}
+use Rattle.tight.specs.EachNumber.{EngineGives, AskGives, AnyLimitGives, beforeLimit, askNumbers, engineNumbers}
+use Rattle.tight.proofs.NotVacuous.{past-block}
 use Rattle.tight.proofs.Starred.{_and_}
 use Rattle.tight.proofs.LimitTable.{Inside, promises, direct-right, further-right}
 
--- A requirement that does not hold, other than that of the limit, gives its number.
-gives : (b : List ℕ) (u o request r : ℕ) → 0 < r → ((e : Engine) (limit : ℕ) → Answers (limitNeeds b u o request (Inside e b limit)) r)
-    → AnyLimitGives r
-gives b u o request r above a = (
+-- A block of no bytes, and one whose header is all zero.
+no-block : AskGives 1 × AskGives 2
+unfolding blockNeeds Sized number
+no-block = (
+  ([], 1, 9, 15, inl ((λ s. omega (arith, s .0)), refl)),
+  (zeros 16, 1, 9, 15, inr ((omega arith, omega arith), inl ((λ g. omega (arith, g .m-offset)), refl))),
+)
+
+-- User nameCount, and request 0.
+no-question : AskGives 4 × AskGives 5
+no-question = (
+  (nothing, nameCount, 9, 15, past-block (askNeeds nameCount 9 15) 4 (inl ((λ n. omega (arith, n .0)), refl))),
+  (nothing, 1, 9, 0, past-block (askNeeds 1 9 0) 5 (inr ((omega arith, omega arith), inl ((λ n. omega (arith, n .0)), refl)))),
+)
+
+-- All is as it should be.
+question : AskGives 0
+question = (nothing, 1, 9, 15, past-block (askNeeds 1 9 15) 0 (inr ((omega arith, omega arith), inr ((omega arith, omega arith), refl))))
+
+pub ask-numbers : Each AskGives askNumbers
+ask-numbers = question and no-block .0 and no-block .1 and no-question .0 and no-question .1 and tt
+
+-- Both engines give it then, whatever the limit.
+gives : {r : ℕ} → (r ≡ 0 → ⊥) → AskGives r → AnyLimitGives r
+unfolding limitNeeds
+gives {r} some (b, u, o, request, a) = (
   b,
   u,
   o,
   request,
   λ e limit.
-      promises e b u o request limit (r, 0) (refuses _ _ (limitNeeds b u o request (Inside e b limit)) (not-zero b r above) (a e limit)),
-)
-
--- A block of no bytes, and one whose header is all zero.
-no-block : AnyLimitGives 1 × AnyLimitGives 2
-unfolding limitNeeds blockNeeds Sized number
-no-block = (
-  gives [] 1 9 15 1 (omega arith) (λ e limit. inl ((λ s. omega (arith, s .0)), refl)),
-  gives (zeros 16) 1 9 15 2 (omega arith) (λ e limit. inr ((omega arith, omega arith), inl ((λ g. omega (arith, g .m-offset)), refl))),
-)
-
--- User nameCount, and request 0.
-no-question : AnyLimitGives 4 × AnyLimitGives 5
-unfolding limitNeeds
-no-question = (
-  gives nothing nameCount 9 15 4 (omega arith) (λ e limit. past-block _ 4 (inl ((λ n. omega (arith, n .0)), refl))),
-  gives nothing 1 9 0 5 (omega arith) (λ e limit. past-block _ 5 (inr ((omega arith, omega arith), inl ((λ n. omega (arith, n .0)), refl)))),
+      promises e b u o request limit (r, 0)
+      (refused-every b u o request 14 (Inside e b limit) (λ n. (n, 0)) (HeldWithin limit b u o request) some a),
 )
 
 pub before-limit : Each AnyLimitGives beforeLimit
-before-limit = no-block .0 and no-block .1 and no-question .0 and no-question .1 and tt
+before-limit =
+    gives (λ e. omega (arith, e)) (no-block .0) and gives (λ e. omega (arith, e)) (no-block .1)
+    and gives (λ e. omega (arith, e)) (no-question .0) and gives (λ e. omega (arith, e)) (no-question .1) and tt
 
 -- Both give it, with the limit 0.
 of-engine : {n : ℕ} → AnyLimitGives n → (e : Engine) → EngineGives e n
@@ -59,9 +69,9 @@ too-long Engine.walk = (_, _, _, _, _, _, further-right .1 .1 .1 .1 .1 .1 .1 .1 
 pub engine-numbers : (e : Engine) → Each (EngineGives e) engineNumbers
 engine-numbers e =
     (_, _, _, _, _, _, direct-right .0 e)
-    and of-engine (no-block .0) e
-    and of-engine (no-block .1) e
-    and of-engine (no-question .0) e
-    and of-engine (no-question .1) e
+    and of-engine (before-limit .0) e
+    and of-engine (before-limit .1 .0) e
+    and of-engine (before-limit .1 .1 .0) e
+    and of-engine (before-limit .1 .1 .1 .0) e
     and too-long e
     and tt

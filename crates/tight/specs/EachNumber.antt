@@ -1,11 +1,12 @@
--- 01, "Numbers a caller can get", M-100, M-103, M-105, M-106, M-111 and M-112: which calls give which numbers. A call gives a number when it does so for
--- some input.
+-- 01, "Numbers a caller can get", M-100, M-103, M-105, M-106, M-111 and M-112: which calls give which numbers. A call gives a number when it
+-- does so for some input.
 use Prim.Native.Nat.{ℕ}
-use mathlib.Core.List.{List, [], _∷_}
+use mathlib.Core.List.{List, [], _∷_, _++_}
+use Rattle.index.specs.Numbers.{Answers}
 use Rattle.index.specs.Wide.{Sent}
-use Rattle.index.specs.Calls.{Makes, Sends, CarriesOut, WritesSet, ReadsSet}
+use Rattle.index.specs.Calls.{blockNeeds, Makes, Sends, CarriesOut, WritesSet, ReadsSet}
 use Rattle.directory.specs.By.{MakesDirectory, SendsBy, ReadBy, WriteBy}
-use Rattle.rights.specs.Questions.{Full, Short, FullBy, ShortBy}
+use Rattle.rights.specs.Questions.{askNeeds, Full, Short, FullBy, ShortBy}
 use Rattle.rights.specs.Through.{LetsThrough}
 use Rattle.slips.specs.Calls.{ChecksSlip, FindsSlip}
 use Rattle.calendar.specs.declared.Date.{Date}
@@ -59,6 +60,10 @@ LetsGive n = (b : List ℕ) × (u : ℕ) × (o : ℕ) × (mask : ℕ) × LetsThr
 abbrev pub EngineGives : Engine → ℕ → Type 0
 EngineGives e n =
     (b : List ℕ) × (u : ℕ) × (o : ℕ) × (request : ℕ) × (limit : ℕ) × (mask : ℕ) × Promises e b u o request limit (n, mask)
+
+-- `ask_refusal`, which both begin with.
+abbrev pub AskGives : ℕ → Type 0
+AskGives n = (b : List ℕ) × (u : ℕ) × (o : ℕ) × (request : ℕ) × Answers (blockNeeds b ++ askNeeds u o request) n
 
 -- Both give the number, whatever the limit is.
 abbrev pub AnyLimitGives : ℕ → Type 0
@@ -140,6 +145,9 @@ letsNumbers = 0 ∷ 1 ∷ 2 ∷ 4 ∷ []
 -- M-111: "1, 2, 4, 5, then 14": those before 14, and all.
 abbrev pub beforeLimit : List ℕ
 beforeLimit = 1 ∷ 2 ∷ 4 ∷ 5 ∷ []
+
+abbrev pub askNumbers : List ℕ
+askNumbers = 0 ∷ beforeLimit
 
 abbrev pub engineNumbers : List ℕ
 engineNumbers = 0 ∷ 1 ∷ 2 ∷ 4 ∷ 5 ∷ 14 ∷ []

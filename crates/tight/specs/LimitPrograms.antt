@@ -37,8 +37,8 @@ HoldsTo other p =
     → Limited Ordinary (other limit) b u o request (p e b u o request limit .1))
 
 -- Always 32, as in the full question; and always one record more.
-abbrev pub KeepsTheLimit : LimitProgram → Type 0
-KeepsTheLimit p = HoldsTo (λ limit. chainLimit) p
+abbrev pub StaysAt32 : LimitProgram → Type 0
+StaysAt32 p = HoldsTo (λ limit. chainLimit) p
 
 abbrev pub OneMore : LimitProgram → Type 0
 OneMore p = HoldsTo suc p
@@ -47,8 +47,8 @@ OneMore p = HoldsTo suc p
 abbrev pub OpensTo : (ℕ → ℕ) → LimitProgram → Type 0
 OpensTo other p = (e : Engine) × ((b : List ℕ) (u o request limit k : ℕ) → In k (p e b u o request limit .1) → Open (other limit) b u o)
 
-abbrev pub KeepsMarkersTheLimit : LimitProgram → Type 0
-KeepsMarkersTheLimit p = OpensTo (λ limit. chainLimit) p
+abbrev pub MarkersStayAt32 : LimitProgram → Type 0
+MarkersStayAt32 p = OpensTo (λ limit. chainLimit) p
 
 abbrev pub OneMoreMarker : LimitProgram → Type 0
 OneMoreMarker p = OpensTo suc p

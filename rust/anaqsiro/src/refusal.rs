@@ -132,7 +132,9 @@ impl fmt::Display for Refusal {
                 "a 257th appointment, a date that is none, or a day, date, term or anniversary outside the range"
             }
             Refusal::DirectoryNotOwn => "the lent directory has the wrong length or is not the block's own",
-            Refusal::Limit => "a limit above 8 or more than 64 membership records for the plain engine; a limit above 32",
+            Refusal::Limit => {
+                "for the plain engine a limit above 8 or more than 64 membership records; for the walk a limit above 32"
+            }
             Refusal::Profile => "a profile other than ordinary or strict",
             Refusal::Unknown(_) => "not a number of this version",
         };

@@ -7,7 +7,7 @@ use Rattle.index.specs.declared.Kind.the-variants.{Membership}
 use Rattle.index.specs.Block.{size}
 use Rattle.rights.specs.declared.Given.{Given}
 use Rattle.rights.specs.HeldTo.{HeldTo, AsksTo}
-use Rattle.rights.proofs.laws.questions.Limits.{given-same, one-within, same-within}
+use Rattle.rights.proofs.laws.questions.Limits.{given-same, one-within, as-other, one-held-to}
 use Rattle.plain.specs.Plain.{greatestLimit, mostRecords, Small, Within, AsksWithin, EnginesAgree}
 
 module _ (b : List ℕ) (u o request limit : ℕ) where
@@ -19,11 +19,15 @@ module _ (b : List ℕ) (u o request limit : ℕ) where
   unfolding AsksWithin
   one-asks-within = given-same (Within b u o request limit) (Within b u o request limit) one-plain
 
--- The outcomes, and the answers of the code as the two public functions promise them.
-pub outcomes-agree : (b : List ℕ) (u o request limit : ℕ) → limit ≤ greatestLimit → size b Membership ≤ mostRecords → (a c : ℕ × ℕ)
-    → Within b u o request limit a → HeldTo b u o request limit c → a ≡ c
-unfolding Within HeldTo
-outcomes-agree b u o request limit few small a c p q = same-within b u o request limit (few, small) (omega (arith, few)) a c p q
+-- Where 14 is not due, the plain engine's outcome is one of the main walk, so that the outcomes are the same, and with them the answers of the
+-- code, as the two public functions promise them.
+module _ (b : List ℕ) (u o request limit : ℕ) (few : limit ≤ greatestLimit) (small : size b Membership ≤ mostRecords) where
+  pub as-walked : (a : ℕ × ℕ) → Within b u o request limit a → HeldTo b u o request limit a
+  unfolding Within HeldTo
+  as-walked = as-other b u o request limit (few, small) (omega (arith, few))
+
+  pub outcomes-agree : (a c : ℕ × ℕ) → Within b u o request limit a → HeldTo b u o request limit c → a ≡ c
+  outcomes-agree a c p q = one-held-to b u o request limit a c (as-walked a p) q
 
 pub engines-agree : EnginesAgree
 unfolding AsksWithin AsksTo

@@ -27,7 +27,7 @@ fn every_refusal_has_its_number() {
     );
     assert_eq!(
         Refusal::Limit.to_string(),
-        "refused with 14: a limit above 8 or more than 64 membership records for the plain engine; a limit above 32"
+        "refused with 14: for the plain engine a limit above 8 or more than 64 membership records; for the walk a limit above 32"
     );
     assert_eq!(Refusal::Profile.to_string(), "refused with 15: a profile other than ordinary or strict");
     assert_eq!(Refusal::Unknown(99).to_string(), "refused with 99: not a number of this version");

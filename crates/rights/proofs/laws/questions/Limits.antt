@@ -6,7 +6,7 @@ use mathlib.Core.Logic.{inl, ⊎-elim}
 use native.Mathlib.Omega.{arith}
 use Rattle.index.specs.Numbers.{First}
 use Rattle.index.specs.Calls.{blockNeeds}
-use Rattle.index.proofs.laws.Firsts.{All, first-passed, without-last}
+use Rattle.index.proofs.laws.Firsts.{All, first-passed, with-last, without-last}
 use Rattle.index.proofs.laws.OneFirst.{one-first}
 use Rattle.index.proofs.laws.block.Masks.{mask-one}
 use Rattle.rights.specs.declared.Given.{Given}
@@ -47,28 +47,27 @@ module _ (b : List ℕ) (u o request limit : ℕ) where
       let m : a .1 ≡ c .1 = mask-one (p .1) (q .1) in
       λ i. (n i, m i)
 
-  -- A question with this limit, of any engine, that is refused with 14 unless Within.
+  -- A question with this limit, of any engine, that is refused with 14 unless Allowed.
   abbrev Asking : Type 0 → ℕ × ℕ → Type 0
-  Asking Within a = First refusal (limitNeeds b u o request Within) (HeldWithin limit b u o request) a
+  Asking Allowed a = First refusal (limitNeeds b u o request Allowed) (HeldWithin limit b u o request) a
 
-  pub one-within : (Within : Type 0) (a c : ℕ × ℕ) → Asking Within a → Asking Within c → a ≡ c
-  one-within Within = one-first refusal (limitNeeds b u o request Within) (HeldWithin limit b u o request) one-held
+  pub one-within : (Allowed : Type 0) (a c : ℕ × ℕ) → Asking Allowed a → Asking Allowed c → a ≡ c
+  one-within Allowed = one-first refusal (limitNeeds b u o request Allowed) (HeldWithin limit b u o request) one-held
 
-  -- Of two engines, where neither is.
-  pub same-within : {Within Within′ : Type 0} → Within → Within′ → (a c : ℕ × ℕ) → Asking Within a → Asking Within′ c → a ≡ c
+  -- Of two engines, where neither refuses with 14, what one gives is right of the other.
+  pub as-other : {Allowed Allowed′ : Type 0} → Allowed → Allowed′ → (a : ℕ × ℕ) → Asking Allowed a → Asking Allowed′ a
   unfolding limitNeeds blockNeeds
-  same-within {Within} {Within′} within within′ a c p q =
+  as-other {Allowed} {Allowed′} allowed allowed′ a p =
       let ts = blockNeeds b ++ askNeeds u o request in
-      one-first refusal ts (HeldWithin limit b u o request) one-held a c
-      (without-last refusal ts ((14, Within) ∷ []) (HeldWithin limit b u o request) a (within, tt) p)
-      (without-last refusal ts ((14, Within′) ∷ []) (HeldWithin limit b u o request) c (within′, tt) q)
+      with-last refusal ts ((14, Allowed′) ∷ []) (HeldWithin limit b u o request) a (allowed′, tt)
+      (without-last refusal ts ((14, Allowed) ∷ []) (HeldWithin limit b u o request) a (allowed, tt) p)
 
   -- What an accepted answer says.
-  pub accepted-within : (Within : Type 0) (mask : ℕ) → Asking Within (0, mask)
-      → All (limitNeeds b u o request Within) × Limited Ordinary limit b u o request mask
+  pub accepted-within : (Allowed : Type 0) (mask : ℕ) → Asking Allowed (0, mask)
+      → All (limitNeeds b u o request Allowed) × Limited Ordinary limit b u o request mask
   unfolding limitNeeds blockNeeds
-  accepted-within Within mask h =
-      let r = first-passed refusal (HeldWithin limit b u o request) (0, mask) (λ a. a .0) (λ n. refl) (limitNeeds b u o request Within) (omega arith) refl h in
+  accepted-within Allowed mask h =
+      let r = first-passed refusal (HeldWithin limit b u o request) (0, mask) (λ a. a .0) (λ n. refl) (limitNeeds b u o request Allowed) (omega arith) refl h in
       (r .0, r .1 .1)
 
   -- ---- the main walk

@@ -10,7 +10,7 @@ use Rattle.index.specs.Block.{Sized, Good, IsName}
 use Rattle.index.specs.Calls.{blockNeeds}
 use Rattle.index.proofs.laws.Firsts.{All, passed, refuses, refused-first, passed-first}
 use Rattle.index.proofs.laws.OneFirst.{one-first}
-use Rattle.rights.specs.Questions.{askNeeds}
+use Rattle.rights.specs.Questions.{askNeeds, lastNeeds}
 
 pub positive : (m : ℕ) → (m ≡ 0 → ⊥) → 0 < m
 positive ℕ.zero ne = absurd (ne refl)
@@ -27,10 +27,6 @@ pub record Asked (b : List ℕ) (u o request : ℕ) : Type 0 where
 
 abbrev pub everyNeeds : List ℕ → ℕ → ℕ → ℕ → List (ℕ × Type 0)
 everyNeeds b u o request = blockNeeds b ++ askNeeds u o request
-
--- One that needs Last besides, last of all, with its number.
-abbrev pub lastNeeds : List ℕ → ℕ → ℕ → ℕ → ℕ → Type 0 → List (ℕ × Type 0)
-lastNeeds b u o request number Last = blockNeeds b ++ (askNeeds u o request ++ ((number, Last) ∷ []))
 
 module _ (b : List ℕ) (u o request : ℕ) where
   all-asked : Asked b u o request → All (everyNeeds b u o request)
