@@ -1,5 +1,6 @@
 // The C interface: each call returns the refusal's number times 2^32, plus a value. On refusal the value is 0, but for 9,
 // which comes with the place of the text. A call whose name ends in `_by` is the call of that name, by a directory.
+#![tactic(auto)]
 
 mod limits;
 

@@ -1,4 +1,5 @@
 // Appointments with a first and last day: memberships that are in a block on the days on which they stand.
+#![tactic(auto)]
 
 mod asking;
 mod days;
@@ -16,7 +17,7 @@ pub const APPOINTMENT: usize = 12;
 pub const MOST: usize = 256;
 
 // Whether an appointment stands on a day, or the number of the refusal.
-#[derive(Drop)]
+#[derive(Clone, Copy)]
 pub enum Stood {
     Yes,
     No,
@@ -24,7 +25,7 @@ pub enum Stood {
 }
 
 // The next day on which another set of a list stands, or none, or the number of the refusal.
-#[derive(Drop)]
+#[derive(Clone, Copy)]
 pub enum Next {
     On(u64),
     Never,

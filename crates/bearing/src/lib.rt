@@ -1,4 +1,5 @@
 // What can bear on a user's rights on an object.
+#![tactic(auto)]
 
 mod bearing;
 

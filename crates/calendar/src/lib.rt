@@ -1,4 +1,5 @@
 // The Gregorian calendar from 1 January 1970, day 0, to 31 December 2399, and the days of a term of months.
+#![tactic(auto)]
 
 mod dates;
 mod terms;
@@ -17,7 +18,7 @@ pub const LAST_DAY: u64 = 157053;
 // The most months of a term.
 pub const LONGEST_TERM: u64 = 120;
 
-#[derive(Drop)]
+#[derive(Clone, Copy)]
 pub struct Date {
     pub year: u64,
     pub month: u64,
@@ -25,21 +26,21 @@ pub struct Date {
 }
 
 // The number of a day, or the number of the refusal.
-#[derive(Drop)]
+#[derive(Clone, Copy)]
 pub enum DayNumber {
     Day(u64),
     Refused(u8),
 }
 
 // A date, or the number of the refusal.
-#[derive(Drop)]
+#[derive(Clone, Copy)]
 pub enum Dated {
     On(Date),
     Refused(u8),
 }
 
 // The first day of a term and that of its anniversary, or the number of the refusal.
-#[derive(Drop)]
+#[derive(Clone, Copy)]
 pub enum Span {
     Days(u64, u64),
     Refused(u8),

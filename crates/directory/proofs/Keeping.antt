@@ -5,7 +5,6 @@ use mathlib.Core.List.{List, [], ◌∷◌}
 use mathlib.Core.Logic.{inl, inr, ⊎_elim}
 use native.Mathlib.Decide.{ℕ_discrete}
 use native.Mathlib.Omega.{arith}
-use types.Run.{OneOf}
 use denote.Enum.Declared.{tag_of}
 use Rattle.index.specs.declared.Took.{Took}
 use Rattle.index.specs.declared.Took.TheVariants as took
@@ -130,10 +129,10 @@ module _ (b : List ℕ) (kind x : ℕ) (text b' : List ℕ) where
     unfolding ReadAnswers ReadAnswersBy
     took_set d' v then told = read_kept 0 v told d d' own (λ z. then) (λ some. absurd (some refl))
 
-    pub took_none : (r : Took) → OneOf (1 ∷ 2 ∷ []) (tag_of the_type r) → ReadAnswers b kind x text r b'
+    pub took_none : (r : Took) → ((n : ℕ) → r ≡ took.Set n → ⊥) → ReadAnswers b kind x text r b'
         → ReadAnswersBy b d kind x text r b' d
     unfolding ReadAnswers ReadAnswersBy
-    took_none (took.Set v) o told = absurd (⊎_elim (λ e. omega arith) (λ e. omega arith) o)
+    took_none (took.Set v) o told = absurd (o v refl)
     took_none (took.Wrong place) o told = read_kept 9 place told d d own (λ z. absurd (omega arith)) (λ some. refl)
     took_none (took.Refused n) o told =
         (told.0, told.1, read_kept n 0 told.2 d d own (λ z. absurd (omega (arith, told.0))) (λ some. refl))

@@ -1,4 +1,5 @@
 // The directory of keys: where each key's records begin, part by part; and the calls by a directory.
+#![tactic(auto)]
 
 mod calls;
 mod doors;
@@ -17,7 +18,7 @@ pub const PART: usize = index::NAMES + 1;
 pub const LENGTH: usize = 3 * PART;
 
 // Numbers that follow each other: the first, and the one after the last.
-#[derive(Drop)]
+#[derive(Clone, Copy)]
 pub struct Span {
     pub from: usize,
     pub end: usize,

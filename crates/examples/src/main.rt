@@ -1,4 +1,5 @@
 // The examples of the rules that are run: each line says what was asked, and what came back.
+#![tactic(auto)]
 ghost use Rattle.std.specs.Prelude.{◌<◌};
 
 use index::{GREATEST, HEADER, RECORD};

@@ -62,7 +62,7 @@ pub const MESSAGE: usize = 12;
 
 // What a record says. Membership: the key is a member of the group id. Permission: id is granted or denied rights on
 // key. Filter: the filter named id bounds key.
-#[derive(Drop)]
+#[derive(Clone, Copy)]
 pub enum Kind {
     Membership,
     Permission,
@@ -70,14 +70,14 @@ pub enum Kind {
 }
 
 // What came of writing a set: its text, so many bytes long, or the number of the refusal.
-#[derive(Drop)]
+#[derive(Clone, Copy)]
 pub enum Wrote {
     Text(usize),
     Refused(u8),
 }
 
 // What came of reading a set: so many records; or a text of no set, and its place; or the number of another refusal.
-#[derive(Drop)]
+#[derive(Clone, Copy)]
 pub enum Took {
     Set(usize),
     Wrong(usize),

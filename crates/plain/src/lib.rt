@@ -1,4 +1,5 @@
 // A plain second engine, which the desk can follow with a finger: no marks, no lists. Each function says what it asks.
+#![tactic(auto)]
 
 mod asking;
 mod filters;

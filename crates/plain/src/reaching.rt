@@ -12,7 +12,7 @@ use index::Kind;
 
 // What each record of a chain must have: the right in its net mask; or, masks disregarded, it is a membership and does not count N, or just a
 // membership.
-#[derive(Drop)]
+#[derive(Clone, Copy)]
 pub enum Link {
     Right(u8),
     WithoutN,

@@ -1,4 +1,5 @@
 // The rights: the walk and the two questions.
+#![tactic(auto)]
 
 mod filter;
 mod grants;
@@ -29,7 +30,7 @@ pub(crate) const LIST: usize = index::NAMES + 1;
 pub(crate) const UNKNOWN: u16 = 65535;
 
 // Denials that win: in the strict profile a right that is barred is not held.
-#[derive(Drop)]
+#[derive(Clone, Copy)]
 pub enum Profile {
     Ordinary,
     Strict,
@@ -37,14 +38,14 @@ pub enum Profile {
 
 // The answer to the full question: the rights held, and the number of M records examined on the user's side and on the object's; or
 // the number of the refusal.
-#[derive(Drop)]
+#[derive(Clone, Copy)]
 pub enum Rights {
     Held(u8, u16, u16),
     Refused(u8),
 }
 
 // The answer to a question with yes or no.
-#[derive(Drop)]
+#[derive(Clone, Copy)]
 pub enum Answer {
     Yes,
     No,
@@ -52,7 +53,7 @@ pub enum Answer {
 }
 
 // What a call gives that answers with rights alone: their mask, or the number of the refusal.
-#[derive(Drop)]
+#[derive(Clone, Copy)]
 pub enum Given {
     Mask(u8),
     Refused(u8),

@@ -20,7 +20,7 @@ use index::{Kind, NAMES, PAIR};
 use rights::Given;
 
 // The P record that a slip's chains end at, or that there is none.
-#[derive(Drop)]
+#[derive(Clone, Copy)]
 pub enum Grant {
     At(usize),
     Nowhere,
@@ -38,7 +38,7 @@ fn steps_to(objects: &[u8; NAMES], g: usize) -> u8
 }
 
 // The fewest steps found so far, and the P record that they are to.
-#[derive(Drop)]
+#[derive(Clone, Copy)]
 pub struct Best {
     pub steps: u8,
     pub at: usize,

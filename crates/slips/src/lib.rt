@@ -1,4 +1,5 @@
 // Slips: the chains and the grant that a right rests on, found for a user and an object, or checked.
+#![tactic(auto)]
 
 mod checking;
 mod finding;
@@ -14,7 +15,7 @@ pub use crate::finding::find_slip;
 pub const CHAIN: usize = rights::LIMIT + 1;
 
 // What came of looking for a slip: so many names on the user's chain and on the object's; none; or the number of the refusal.
-#[derive(Drop)]
+#[derive(Clone, Copy)]
 pub enum Sought {
     Slip(u8, u8),
     None,

@@ -1,5 +1,6 @@
 // standing: reads messages of 12 bytes from standard input into an empty block, says which were refused, then prints
 // every set that is not empty.
+#![tactic(auto)]
 ghost use Rattle.std.specs.Prelude.{◌≡◌, true, ◌++◌, ℕ, ◌+◌, ◌≤◌, length};
 ghost use Rattle.index.specs.Block.{IsName, name_count, greatest_length};
 ghost use Rattle.index.specs.Message.{IsKind, kind_of};
@@ -100,7 +101,7 @@ fn take_in(block: &mut [u8], message: &[u8], n: u64, line: &mut [u8]) -> usize
 
 // What came of reading one message: it was whole, and there may be more; it was a short last piece; the input had ended;
 // or its line could not be written out.
-#[derive(Drop)]
+#[derive(Clone, Copy)]
 enum Input {
     More,
     Last,

@@ -124,7 +124,7 @@ fn rank_at(b: &[u8], i: usize) -> u32
 
 // What was seen of the records of a part, up to one of them: the least key and id, as one number, that the next may have; all keys and
 // ids, joined, the keys in the high half; and all counts that the records may not have, joined.
-#[derive(Drop)]
+#[derive(Clone, Copy)]
 struct Sight {
     least: usize,
     names: u32,

@@ -10,7 +10,7 @@ ghost use Rattle.index.specs.work.Written.{TableBytes};
 use crate::{Kind, LETTER_COUNT, MARKER_N, MARKER_X, RIGHTS};
 
 // A letter of a set's text, with the mask of what it stands for.
-#[derive(Drop)]
+#[derive(Clone, Copy)]
 pub struct Letter {
     pub mask: u16,
     pub byte: u8,

@@ -11,7 +11,7 @@ use crate::block::records::{id_at, key_at};
 use crate::{Kind, NAMES};
 
 // Where a record is, or where it would be inserted.
-#[derive(Drop)]
+#[derive(Clone, Copy)]
 pub enum Found {
     At(usize),
     Missing(usize),

@@ -20,7 +20,7 @@ pub(crate) const HALF: usize = 5;
 const MARKER: usize = 1 << MARKER_X;
 
 // A half, with the number of its kind; its markers are in its mask.
-#[derive(Drop)]
+#[derive(Clone, Copy)]
 pub(crate) struct Half {
     pub(crate) kind: u64,
     pub(crate) x: usize,

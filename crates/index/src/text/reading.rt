@@ -7,14 +7,14 @@ ghost use Rattle.index.specs.work.Pieces.{SeesNumber, SeesMark};
 use crate::GREATEST_COUNT;
 
 // A place in a text.
-#[derive(Drop)]
+#[derive(Clone, Copy)]
 pub struct Cursor {
     pub at: usize,
 }
 
 // What stands at a place in a text, with the place after it: an id or a count, `;`, or the letters of a record. Or nothing
 // that may stand there, with the place of the first byte that may not.
-#[derive(Drop)]
+#[derive(Clone, Copy)]
 pub enum Piece {
     Number(usize, Cursor),
     Mark(Cursor),

@@ -156,7 +156,7 @@ holds (refused u h p) e = holds p e
 moment : {b b' : List ℕ} {s s' : List Statement} (ms more : List Labelled) → History b s (ms ++ more) b' s'
     → (b₁ : List ℕ) × (s₁ : List Statement) × History b s ms b₁ s₁
 moment [] more h = (_, _, nothing)
-moment (m ∷ ms) more (accepted g q p) = let r = moment ms more p in (r.0, r.1, accepted g q r.2)
+moment {b} (m ∷ ms) more (accepted {b₁ = b₁} g q p) = let r = moment {b = b₁} ms more p in (r.0, r.1, accepted g q r.2)
 moment (m ∷ ms) more (refused u g p) = let r = moment ms more p in (r.0, r.1, refused u g r.2)
 
 -- The block that make leaves has no records.

@@ -23,7 +23,7 @@ use Rattle.index.specs.work.Pieces.{SeesEntry, rest}
 use Rattle.index.specs.work.Written.{Stands, Entered, entry_of, Filled}
 use Rattle.index.proofs.laws.block.Bytes.{number_below, inside_none, inside_then, inside_wide, count_number}
 use Rattle.index.proofs.laws.text.TakenApart.{not_got}
-use Rattle.index.proofs.laws.text.HandedOn.{Other, is_entry, no_entry}
+use Rattle.index.proofs.laws.text.HandedOn.{NoNumber, is_entry, no_entry}
 use Rattle.index.proofs.laws.text.ReadSets.{head_entry}
 use Rattle.index.proofs.laws.text.Writes.{counts_long, counts_each}
 
@@ -140,7 +140,7 @@ module _ {x first : ℕ} {text : List ℕ} {kind : Kind} {b₀ : List ℕ} {es :
     reads : SeesEntry text p cs (got (entry_of es i) (rest true (drop (i + 1) es)))
     reads = k (entry_of es i) (drop (i + 1) es) others (t.left ∙ ap (rest (ltb 0 i)) split)
 
-    pub never_wrong : Other (1 ∷ 2 ∷ 3 ∷ []) p → ⊥
+    pub never_wrong : NoNumber p → ⊥
     never_wrong o = not_got (sym (no_entry text cs p _ o reads).2)
 
     module _ {n : ℕ} {c : Cursor} (w : p ≡ Number n c) where

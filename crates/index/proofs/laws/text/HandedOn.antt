@@ -5,13 +5,10 @@ use mathlib.Core.List.{List, [], ◌∷◌}
 use mathlib.Core.Logic.{⊎_elim}
 use native.Mathlib.Omega.{arith}
 use lib.ListN.{drop}
-use types.Run.{OneOf}
-use denote.Enum.Declared.{tag_of}
 use Rattle.index.specs.declared.text.reading.Cursor.{Cursor}
 use Rattle.index.specs.declared.text.reading.Piece.{Piece}
 use Rattle.index.specs.declared.text.reading.Piece.TheVariants.{Number, Mark, Letters, Wrong}
 use Rattle.index.specs.Text.{Entry}
-use Rattle.index.specs.contracts.text.reading.Piece.{the_type}
 use Rattle.index.specs.work.Reading.{Parsed, and_then}
 use Rattle.index.specs.work.Reading.Parsed.{got, wrong}
 use Rattle.index.specs.work.Pieces.{SeesNumber, SeesMark, SeesLetters, SeesEntry}
@@ -39,31 +36,37 @@ abbrev pub BothWrong : {A : Type 0} → List ℕ → Piece → Parsed A → Type
 BothWrong text p x = (c : Cursor) × (p ≡ Wrong c) × (x ≡ wrong (drop c.at text))
 
 -- It has one of the other three cases.
-abbrev pub Other : List ℕ → Piece → Type 0
-Other cases p = OneOf cases (tag_of the_type p)
+abbrev pub NoNumber : Piece → Type 0
+NoNumber p = (n : ℕ) (c : Cursor) → p ≡ Number n c → ⊥
+
+abbrev pub NoMark : Piece → Type 0
+NoMark p = (c : Cursor) → p ≡ Mark c → ⊥
+
+abbrev pub NoLetters : Piece → Type 0
+NoLetters p = (c : Cursor) → p ≡ Letters c → ⊥
 
 module _ (text : List ℕ) where
-  pub no_number : (p : Piece) (x : Parsed ℕ) → Other (1 ∷ 2 ∷ 3 ∷ []) p → SeesNumber text p x → BothWrong text p x
-  no_number (Number n c) x o s = absurd (⊎_elim (λ e. omega arith) (⊎_elim (λ e. omega arith) (λ e. omega arith)) o)
+  pub no_number : (p : Piece) (x : Parsed ℕ) → NoNumber p → SeesNumber text p x → BothWrong text p x
+  no_number (Number n c) x o s = absurd (o n c refl)
   no_number (Mark c) x o s = absurd s
   no_number (Letters c) x o s = absurd s
   no_number (Wrong c) x o s = (c, refl, s)
 
-  pub no_mark : (p : Piece) (x : Parsed ℕ) → Other (0 ∷ 2 ∷ 3 ∷ []) p → SeesMark text p x → BothWrong text p x
+  pub no_mark : (p : Piece) (x : Parsed ℕ) → NoMark p → SeesMark text p x → BothWrong text p x
   no_mark (Number n c) x o s = absurd s
-  no_mark (Mark c) x o s = absurd (⊎_elim (λ e. omega arith) (⊎_elim (λ e. omega arith) (λ e. omega arith)) o)
+  no_mark (Mark c) x o s = absurd (o c refl)
   no_mark (Letters c) x o s = absurd s
   no_mark (Wrong c) x o s = (c, refl, s)
 
   module _ (cs : List ℕ) where
-    pub no_letters : (p : Piece) (x : Parsed (List ℕ)) → Other (0 ∷ 1 ∷ 3 ∷ []) p → SeesLetters text p cs x → BothWrong text p x
+    pub no_letters : (p : Piece) (x : Parsed (List ℕ)) → NoLetters p → SeesLetters text p cs x → BothWrong text p x
     no_letters (Number n c) x o s = absurd s
     no_letters (Mark c) x o s = absurd s
-    no_letters (Letters c) x o s = absurd (⊎_elim (λ e. omega arith) (⊎_elim (λ e. omega arith) (λ e. omega arith)) o)
+    no_letters (Letters c) x o s = absurd (o c refl)
     no_letters (Wrong c) x o s = (c, refl, s)
 
-    pub no_entry : (p : Piece) (x : Parsed Entry) → Other (1 ∷ 2 ∷ 3 ∷ []) p → SeesEntry text p cs x → BothWrong text p x
-    no_entry (Number n c) x o s = absurd (⊎_elim (λ e. omega arith) (⊎_elim (λ e. omega arith) (λ e. omega arith)) o)
+    pub no_entry : (p : Piece) (x : Parsed Entry) → NoNumber p → SeesEntry text p cs x → BothWrong text p x
+    no_entry (Number n c) x o s = absurd (o n c refl)
     no_entry (Mark c) x o s = absurd s
     no_entry (Letters c) x o s = absurd s
     no_entry (Wrong c) x o s = (c, refl, s)

@@ -6,7 +6,6 @@ use mathlib.Core.Logic.{inl, inr, ⊎_elim}
 use native.Mathlib.Omega.{arith}
 use lib.ListN.{length, drop}
 use lib.Seq.{sets, sets-eq}
-use types.Run.{OneOf}
 use denote.Enum.Declared.{tag_of}
 use Rattle.index.specs.declared.Kind.{Kind}
 use Rattle.index.specs.declared.Wrote.TheVariants as wrote
@@ -91,9 +90,9 @@ module _ (b : List ℕ) (kind x : ℕ) (text : List ℕ) where
         (subst (λ (L : Kind). ReadsText b L x text o) q w)
 
     -- What came of the text is not how many records it is of, so it is of none, and wrong at its place.
-    pub took_wrong : (r : Took) → OneOf (1 ∷ 2 ∷ []) (tag_of the_type r) → Scanned K text r → ReadAnswers b kind x text r b
+    pub took_wrong : (r : Took) → ((n : ℕ) → r ≡ took.Set n → ⊥) → Scanned K text r → ReadAnswers b kind x text r b
     unfolding ReadAnswers
-    took_wrong (took.Set n) o s = absurd (⊎_elim (λ e. omega arith) (λ e. omega arith) o)
+    took_wrong (took.Set n) o s = absurd (o n refl)
     took_wrong (took.Wrong n) o s = there (9, n, b) (inl (s.0, refl, s.1, refl))
     took_wrong (took.Refused n) o s = absurd s
 

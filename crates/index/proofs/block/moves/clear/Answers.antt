@@ -1,0 +1,20 @@
+-- Bytes become zero from the lowest on.
+use Prim.Native.Nat.{◌-◌}
+use mathlib.Core.Path.{◌≡◌, refl}
+use native.Mathlib.Omega.{arith}
+use borrow.Author.Rules.{rules}
+use Rattle.index.proofs.laws.block.Filling.{filled_none, filled_up}
+use Rattle.index.proofs.block.moves.clear.Goals as goal
+
+pub loop-t-init : goal.loop-t-init
+loop-t-init c = (search rules, search rules, filled_none _ _ _)
+
+pub loop-t-preserved : goal.loop-t-preserved
+loop-t-preserved c =
+    let d = c.loop-t.invariant.2 in
+    (search rules, search rules, filled_up _ d (search rules) (omega (arith, d.rest.same_length)) refl)
+
+pub returns : goal.returns
+returns c =
+    let e : c.loop-t.t ≡ c.args.hi = omega arith in
+    rw e at c.loop-t.invariant.2

@@ -1,0 +1,46 @@
+-- `index::text::entries::counts` meets its contract. The loop: what the whole reading finds is what reading on from letter k finds, after the counts in `out`.
+use Prim.Native.Nat.{◌-◌}
+use mathlib.Core.Path.{◌∙◌}
+use native.Mathlib.Omega.{arith}
+use lib.ListN.{drop, get_or, length-set}
+use Rattle.index.specs.Letters.{letters, may_have}
+use Rattle.index.specs.work.Reading.{read_counts}
+use Rattle.index.proofs.laws.text.ReadSteps.{after_none, after_wrong, after_more, after_all}
+use Rattle.index.proofs.laws.text.HandedOn.{is_number, no_number}
+use Rattle.index.proofs.text.entries.counts.Goals as goal
+
+pub loop-k-init : goal.loop-k-init
+loop-k-init c =
+    let s = c in
+    (omega arith, s.requires.out_len, λ K are. after_none s.args.out.now (read_counts K 0 letters (drop s.args.c.at s.args.text.now)))
+
+pub bounds-bytes-k : goal.bounds-bytes-k
+bounds-bytes-k c = omega (arith, c.loop-k-test.true, c.requires.bytes_len.0)
+
+pub returns-in_default : goal.returns-in_default
+returns-in_default c =
+    let a = c.args in
+    let are = c.requires.bytes_len.1 in
+    let l = c.loop-k in
+    let h = c.loop-k-test.true in
+    let w = no_number a.text.now c.counted-piece.result _ c.in_default.not-Number (c.counted-piece.ensures (may_have a.kind l.k) (get_or letters l.k 0) (are l.k h)) in
+    (l.invariant.1, rw w.1 (l.invariant.2 a.kind are ∙ after_wrong l.out _ l.k h _ _ w.2))
+
+pub loop-k-preserved : goal.loop-k-preserved
+loop-k-preserved c =
+    let a = c.args in
+    let l = c.loop-k in
+    let h = c.loop-k-test.true in (
+      omega arith,
+      simp length-set l.invariant.1,
+      λ K are.
+          l.invariant.2 K are ∙ after_more l.out _ l.k h _ _ _ l.invariant.1
+          (is_number a.text.now c.in-Number.is (c.counted-piece.ensures (may_have K l.k) (get_or letters l.k 0) (are l.k h))),
+    )
+
+pub returns : goal.returns
+returns c =
+    let s = c in
+    let a = s.args in
+    let l = c.loop-k in
+    (l.invariant.1, l.invariant.2 a.kind s.requires.bytes_len.1 ∙ after_all l.out _ l.k _ l.invariant.1 (omega arith))

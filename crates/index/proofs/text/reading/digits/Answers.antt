@@ -1,0 +1,61 @@
+-- `index::text::reading::digits` meets its contract: a step of `read_digits` for each way.
+use borrow.Author.Tests.{not-true, not-false}
+use Prim.Native.Nat.{◌-◌}
+use mathlib.Core.Path.{refl, sym, ◌∙◌}
+use borrow.Author.Rules.{rules}
+use native.Mathlib.Omega.{arith}
+use Rattle.index.proofs.laws.text.Decimal.{digit_bounds}
+use Rattle.index.proofs.laws.text.ReadNumbers.{begins_most}
+use Rattle.index.proofs.laws.text.ReadSteps.{digits_end, digits_other, digits_wrong, digits_next}
+use Rattle.std.proofs.Common.{ap}
+use mathlib.Core.Bool.{not}
+use Rattle.index.proofs.text.reading.digits.Goals as goal
+
+pub loop-at-init : goal.loop-at-init
+loop-at-init c = (search rules, refl)
+
+pub returns-then-not-is_digit : goal.returns-then-not-is_digit
+returns-then-not-is_digit c =
+    let a = c.args in
+    let l = c.loop-at in
+    rw
+    (sym l.invariant.1
+    ∙ digits_other a.text.now l.at a.least a.most l.sum c.loop-at-test.true (sym c.is_digit.ensures ∙ not-true _ (ap not c.if-not-is_digit.true)))
+    (c.ended.ensures a.text.now)
+
+pub overflow_cast-more : goal.overflow_cast-more
+overflow_cast-more c = omega (arith, c.type_inv.text c.loop-at.at)
+
+pub overflow_sub-more : goal.overflow_sub-more
+overflow_sub-more c = omega (arith, digit_bounds _ (sym c.is_digit.ensures ∙ not-false _ (ap not c.if-not-is_digit.false)))
+
+pub overflow_add-more : goal.overflow_add-more
+overflow_add-more c = omega (arith, c.type_inv.text c.loop-at.at)
+
+pub reaches-requires : goal.reaches-requires
+reaches-requires c = omega (arith, c.requires)
+
+pub returns-then-not-reaches : goal.returns-then-not-reaches
+returns-then-not-reaches c =
+    let a = c.args in
+    let l = c.loop-at in
+    sym l.invariant.1
+    ∙ digits_wrong a.text.now l.at a.least a.most l.sum c.loop-at-test.true (sym c.is_digit.ensures ∙ not-false _ (ap not c.if-not-is_digit.false))
+    (sym c.reaches.ensures ∙ not-true _ (ap not c.if-not-reaches.true))
+
+pub loop-at-preserved : goal.loop-at-preserved
+loop-at-preserved c =
+    let a = c.args in
+    let l = c.loop-at in
+    let b = sym c.reaches.ensures ∙ not-false _ (ap not c.if-not-reaches.false) in (
+      begins_most a.least a.most _ b,
+      sym (digits_next a.text.now l.at a.least a.most l.sum c.loop-at-test.true (sym c.is_digit.ensures ∙ not-false _ (ap not c.if-not-is_digit.false)) b)
+          ∙ l.invariant.1,
+    )
+
+pub returns : goal.returns
+returns c =
+    let a = c.args in
+    let l = c.loop-at in
+    rw (sym l.invariant.1 ∙ digits_end a.text.now l.at a.least a.most l.sum c.loop-at-test.false)
+    (c.ended-2.ensures a.text.now)

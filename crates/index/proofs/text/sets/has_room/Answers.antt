@@ -1,0 +1,7 @@
+-- `index::text::sets::has_room` meets its contract.
+use Rattle.index.specs.Block.{room}
+use Rattle.index.proofs.text.sets.has_room.Goals as goal
+
+pub returns : goal.returns
+unfolding room
+returns c = rw (c.first_of.ensures.0, c.size_at.ensures.is)
