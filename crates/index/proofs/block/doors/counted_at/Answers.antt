@@ -21,9 +21,10 @@ loop-k-preserved c =
     let e : suc loop.k ≡ loop.k + 1 = omega arith in (
       omega arith,
       subst (λ (n : ℕ). Joined Counts n c.if-above_zero.mask) e
-          (elim c.if-above_zero.branch
-            [ then-above_zero w ↦ put_in _ _ _ loop.invariant.1 _ _ told w.if-above_zero.true w.mask-is w.mask_of-mask.ensures
-            | else-above_zero w ↦ left_out _ _ _ loop.invariant.1 _ told w.if-above_zero.false w.mask-is ]),
+          (elim c.if-above_zero.branch [
+            | then-above_zero w ↦ put_in _ _ _ loop.invariant.1 _ _ told w.if-above_zero.true w.mask-is w.mask_of-mask.ensures
+            | else-above_zero w ↦ left_out _ _ _ loop.invariant.1 _ told w.if-above_zero.false w.mask-is
+          ]),
     )
 
 pub returns : goal.returns

@@ -11,8 +11,7 @@ use Rattle.index.proofs.text.entries.counts.Goals as goal
 
 pub loop-k-init : goal.loop-k-init
 loop-k-init c =
-    let s = c in
-    (omega arith, s.requires.out_len, λ K are. after_none s.args.out.now (read_counts K 0 letters (drop s.args.c.at s.args.text.now)))
+    (omega arith, c.requires.out_len, λ K are. after_none c.args.out.now (read_counts K 0 letters (drop c.args.c.at c.args.text.now)))
 
 pub bounds-bytes-k : goal.bounds-bytes-k
 bounds-bytes-k c = omega (arith, c.loop-k-test.true, c.requires.bytes_len.0)
@@ -23,8 +22,12 @@ returns-in_default c =
     let are = c.requires.bytes_len.1 in
     let l = c.loop-k in
     let h = c.loop-k-test.true in
-    let w = no_number a.text.now c.counted-piece.result _ c.in_default.not-Number (c.counted-piece.ensures (may_have a.kind l.k) (get_or letters l.k 0) (are l.k h)) in
-    (l.invariant.1, rw w.1 (l.invariant.2 a.kind are ∙ after_wrong l.out _ l.k h _ _ w.2))
+    let p = c.counted-piece in
+    let w = no_number a.text.now p.result _ c.in_default.not-Number (p.ensures (may_have a.kind l.k) (get_or letters l.k 0) (are l.k h)) in
+    record {
+      out_len_2 = l.invariant.1;
+      sees_letters = rw w.1 (l.invariant.2 a.kind are ∙ after_wrong l.out _ l.k h _ _ w.2);
+    }
 
 pub loop-k-preserved : goal.loop-k-preserved
 loop-k-preserved c =
@@ -38,9 +41,7 @@ loop-k-preserved c =
           (is_number a.text.now c.in-Number.is (c.counted-piece.ensures (may_have K l.k) (get_or letters l.k 0) (are l.k h))),
     )
 
-pub returns : goal.returns
-returns c =
-    let s = c in
-    let a = s.args in
+pub returns-clause-sees_letters : goal.returns-clause-sees_letters
+returns-clause-sees_letters c =
     let l = c.loop-k in
-    (l.invariant.1, l.invariant.2 a.kind s.requires.bytes_len.1 ∙ after_all l.out _ l.k _ l.invariant.1 (omega arith))
+    l.invariant.2 c.args.kind c.requires.bytes_len.1 ∙ after_all l.out _ l.k _ l.invariant.1 (omega arith)

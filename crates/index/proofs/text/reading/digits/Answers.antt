@@ -1,5 +1,4 @@
 -- `index::text::reading::digits` meets its contract: a step of `read_digits` for each way.
-use borrow.Author.Tests.{not-true, not-false}
 use Prim.Native.Nat.{◌-◌}
 use mathlib.Core.Path.{refl, sym, ◌∙◌}
 use borrow.Author.Rules.{rules}
@@ -7,8 +6,6 @@ use native.Mathlib.Omega.{arith}
 use Rattle.index.proofs.laws.text.Decimal.{digit_bounds}
 use Rattle.index.proofs.laws.text.ReadNumbers.{begins_most}
 use Rattle.index.proofs.laws.text.ReadSteps.{digits_end, digits_other, digits_wrong, digits_next}
-use Rattle.std.proofs.Common.{ap}
-use mathlib.Core.Bool.{not}
 use Rattle.index.proofs.text.reading.digits.Goals as goal
 
 pub loop-at-init : goal.loop-at-init
@@ -20,14 +17,14 @@ returns-then-not-is_digit c =
     let l = c.loop-at in
     rw
     (sym l.invariant.1
-    ∙ digits_other a.text.now l.at a.least a.most l.sum c.loop-at-test.true (sym c.is_digit.ensures ∙ not-true _ (ap not c.if-not-is_digit.true)))
+    ∙ digits_other a.text.now l.at a.least a.most l.sum c.loop-at-test.true (sym c.is_digit.ensures ∙ c.if-not-is_digit.true))
     (c.ended.ensures a.text.now)
 
 pub overflow_cast-more : goal.overflow_cast-more
 overflow_cast-more c = omega (arith, c.type_inv.text c.loop-at.at)
 
 pub overflow_sub-more : goal.overflow_sub-more
-overflow_sub-more c = omega (arith, digit_bounds _ (sym c.is_digit.ensures ∙ not-false _ (ap not c.if-not-is_digit.false)))
+overflow_sub-more c = omega (arith, digit_bounds _ (sym c.is_digit.ensures ∙ c.if-not-is_digit.false))
 
 pub overflow_add-more : goal.overflow_add-more
 overflow_add-more c = omega (arith, c.type_inv.text c.loop-at.at)
@@ -40,16 +37,16 @@ returns-then-not-reaches c =
     let a = c.args in
     let l = c.loop-at in
     sym l.invariant.1
-    ∙ digits_wrong a.text.now l.at a.least a.most l.sum c.loop-at-test.true (sym c.is_digit.ensures ∙ not-false _ (ap not c.if-not-is_digit.false))
-    (sym c.reaches.ensures ∙ not-true _ (ap not c.if-not-reaches.true))
+    ∙ digits_wrong a.text.now l.at a.least a.most l.sum c.loop-at-test.true (sym c.is_digit.ensures ∙ c.if-not-is_digit.false)
+    (sym c.reaches.ensures ∙ c.if-not-reaches.true)
 
 pub loop-at-preserved : goal.loop-at-preserved
 loop-at-preserved c =
     let a = c.args in
     let l = c.loop-at in
-    let b = sym c.reaches.ensures ∙ not-false _ (ap not c.if-not-reaches.false) in (
+    let b = sym c.reaches.ensures ∙ c.if-not-reaches.false in (
       begins_most a.least a.most _ b,
-      sym (digits_next a.text.now l.at a.least a.most l.sum c.loop-at-test.true (sym c.is_digit.ensures ∙ not-false _ (ap not c.if-not-is_digit.false)) b)
+      sym (digits_next a.text.now l.at a.least a.most l.sum c.loop-at-test.true (sym c.is_digit.ensures ∙ c.if-not-is_digit.false) b)
           ∙ l.invariant.1,
     )
 

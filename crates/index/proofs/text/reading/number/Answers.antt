@@ -2,13 +2,10 @@
 use Prim.Native.Nat.{ℕ}
 use mathlib.Core.Path.{◌≡◌, sym, ◌∙◌}
 use lib.ListN.{drop}
-use borrow.Author.Tests.{not-true, not-false}
 use Rattle.index.specs.work.Reading.{read_digits, read_number}
 use Rattle.index.proofs.laws.text.HandedOn.{is_number}
 use Rattle.index.proofs.laws.text.NumberReader.{high_enough}
 use Rattle.index.proofs.laws.text.ReadSteps.{number_end, number_zero, number_no_zero, number_digit, number_other}
-use Rattle.std.proofs.Common.{ap}
-use mathlib.Core.Bool.{not}
 use Rattle.index.proofs.text.reading.number.Goals as goal
 
 pub returns-then-text-at : goal.returns-then-text-at
@@ -28,21 +25,21 @@ returns-then-b-eq48 c =
 pub returns-then-not-is_digit : goal.returns-then-not-is_digit
 returns-then-not-is_digit c =
     let a = c.args in
-    number_other a.text.now a.c.at a.least a.most c.if-text-at.false c.if-b-eq48.false (sym c.is_digit.ensures ∙ not-true _ (ap not c.if-not-is_digit.true))
+    number_other a.text.now a.c.at a.least a.most c.if-text-at.false c.if-b-eq48.false (sym c.is_digit.ensures ∙ c.if-not-is_digit.true)
 
 -- A digit that is not 0 stands at the cursor: the number is what its digits are.
 by_digits : (c : goal.Then-least-n) (least : ℕ) → let a = c.args in
     read_number least a.most (drop a.c.at a.text.now) ≡ read_digits least a.most 0 (drop a.c.at a.text.now)
 by_digits c least =
     let a = c.args in
-    number_digit a.text.now a.c.at least a.most c.if-text-at.false c.if-b-eq48.false (sym c.is_digit.ensures ∙ not-false _ (ap not c.if-not-is_digit.false))
+    number_digit a.text.now a.c.at least a.most c.if-text-at.false c.if-b-eq48.false (sym c.is_digit.ensures ∙ c.if-not-is_digit.false)
 
 -- A digit that is not 0 stands at the cursor: the number is what its digits are.
 by_digits_2 : (c : goal.After-digits) (least : ℕ) → let a = c.args in
     read_number least a.most (drop a.c.at a.text.now) ≡ read_digits least a.most 0 (drop a.c.at a.text.now)
 by_digits_2 c least =
     let a = c.args in
-    number_digit a.text.now a.c.at least a.most c.if-text-at.false c.if-b-eq48.false (sym c.is_digit.ensures ∙ not-false _ (ap not c.if-not-is_digit.false))
+    number_digit a.text.now a.c.at least a.most c.if-text-at.false c.if-b-eq48.false (sym c.is_digit.ensures ∙ c.if-not-is_digit.false)
 
 pub returns-then-least-n : goal.returns-then-least-n
 returns-then-least-n c =
