@@ -7,9 +7,6 @@ use Rattle.index.proofs.text.entries.counted.Goals as goal
 pub returns-then-text-at : goal.returns-then-text-at
 returns-then-text-at c = λ may l e. let a = c.args in letter_end a.text.now a.c.at may l c.if-text-at.true
 
-pub overflow_cast-text : goal.overflow_cast-text
-overflow_cast-text c = omega (arith, c.type_inv.text c.args.c.at)
-
 pub returns-then-text-at-2 : goal.returns-then-text-at-2
 returns-then-text-at-2 c =
     λ may l e.

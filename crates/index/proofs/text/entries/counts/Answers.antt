@@ -1,5 +1,4 @@
 -- `index::text::entries::counts` meets its contract. The loop: what the whole reading finds is what reading on from letter k finds, after the counts in `out`.
-use Prim.Native.Nat.{◌-◌}
 use mathlib.Core.Path.{◌∙◌}
 use native.Mathlib.Omega.{arith}
 use lib.ListN.{drop, get_or, length-set}
@@ -12,9 +11,6 @@ use Rattle.index.proofs.text.entries.counts.Goals as goal
 pub loop-k-init : goal.loop-k-init
 loop-k-init c =
     (omega arith, c.requires.out_len, λ K are. after_none c.args.out.now (read_counts K 0 letters (drop c.args.c.at c.args.text.now)))
-
-pub bounds-bytes-k : goal.bounds-bytes-k
-bounds-bytes-k c = omega (arith, c.loop-k-test.true, c.requires.bytes_len.0)
 
 pub returns-in_default : goal.returns-in_default
 returns-in_default c =

@@ -1,17 +1,13 @@
 -- `index::text::entries::is_counted` meets its contract: so far no letter is counted, so the total is that of the others.
-use Prim.Native.Nat.{ℕ, ◌-◌}
+use Prim.Native.Nat.{ℕ}
 use mathlib.Core.List.{List}
-use mathlib.Core.Path.{refl, sym, ap}
+use mathlib.Core.Path.{sym, ap}
 use native.Mathlib.Omega.{arith}
 use lib.ListN.{drop_of_length-le}
 use borrow.Author.Tests.{lt-ltb, le-ltb}
-use borrow.Author.Rules.{rules}
 use Rattle.index.specs.work.Reading.{total}
 use Rattle.index.proofs.laws.text.ReadSteps.{total_from}
 use Rattle.index.proofs.text.entries.is_counted.Goals as goal
-
-pub loop-k-init : goal.loop-k-init
-loop-k-init c = (search rules, refl)
 
 pub returns-then-counts-k-gt0 : goal.returns-then-counts-k-gt0
 returns-then-counts-k-gt0 c =

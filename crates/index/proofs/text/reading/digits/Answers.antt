@@ -1,15 +1,10 @@
 -- `index::text::reading::digits` meets its contract: a step of `read_digits` for each way.
-use Prim.Native.Nat.{◌-◌}
-use mathlib.Core.Path.{refl, sym, ◌∙◌}
-use borrow.Author.Rules.{rules}
+use mathlib.Core.Path.{sym, ◌∙◌}
 use native.Mathlib.Omega.{arith}
 use Rattle.index.proofs.laws.text.Decimal.{digit_bounds}
 use Rattle.index.proofs.laws.text.ReadNumbers.{begins_most}
 use Rattle.index.proofs.laws.text.ReadSteps.{digits_end, digits_other, digits_wrong, digits_next}
 use Rattle.index.proofs.text.reading.digits.Goals as goal
-
-pub loop-at-init : goal.loop-at-init
-loop-at-init c = (search rules, refl)
 
 pub returns-then-not-is_digit : goal.returns-then-not-is_digit
 returns-then-not-is_digit c =
@@ -20,17 +15,8 @@ returns-then-not-is_digit c =
     ∙ digits_other a.text.now l.at a.least a.most l.sum c.loop-at-test.true (sym c.is_digit.ensures ∙ c.if-not-is_digit.true))
     (c.ended.ensures a.text.now)
 
-pub overflow_cast-more : goal.overflow_cast-more
-overflow_cast-more c = omega (arith, c.type_inv.text c.loop-at.at)
-
 pub overflow_sub-more : goal.overflow_sub-more
 overflow_sub-more c = omega (arith, digit_bounds _ (sym c.is_digit.ensures ∙ c.if-not-is_digit.false))
-
-pub overflow_add-more : goal.overflow_add-more
-overflow_add-more c = omega (arith, c.type_inv.text c.loop-at.at)
-
-pub reaches-requires : goal.reaches-requires
-reaches-requires c = omega (arith, c.requires)
 
 pub returns-then-not-reaches : goal.returns-then-not-reaches
 returns-then-not-reaches c =

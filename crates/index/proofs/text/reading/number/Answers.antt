@@ -1,8 +1,6 @@
 -- `index::text::reading::number` meets its contract: a step of `read_number` for each way.
-use Prim.Native.Nat.{ℕ}
-use mathlib.Core.Path.{◌≡◌, sym, ◌∙◌}
+use mathlib.Core.Path.{sym, ◌∙◌}
 use lib.ListN.{drop}
-use Rattle.index.specs.work.Reading.{read_digits, read_number}
 use Rattle.index.proofs.laws.text.HandedOn.{is_number}
 use Rattle.index.proofs.laws.text.NumberReader.{high_enough}
 use Rattle.index.proofs.laws.text.ReadSteps.{number_end, number_zero, number_no_zero, number_digit, number_other}
@@ -28,27 +26,15 @@ returns-then-not-is_digit c =
     number_other a.text.now a.c.at a.least a.most c.if-text-at.false c.if-b-eq48.false (sym c.is_digit.ensures ∙ c.if-not-is_digit.true)
 
 -- A digit that is not 0 stands at the cursor: the number is what its digits are.
-by_digits : (c : goal.Then-least-n) (least : ℕ) → let a = c.args in
-    read_number least a.most (drop a.c.at a.text.now) ≡ read_digits least a.most 0 (drop a.c.at a.text.now)
-by_digits c least =
-    let a = c.args in
-    number_digit a.text.now a.c.at least a.most c.if-text-at.false c.if-b-eq48.false (sym c.is_digit.ensures ∙ c.if-not-is_digit.false)
-
--- A digit that is not 0 stands at the cursor: the number is what its digits are.
-by_digits_2 : (c : goal.After-digits) (least : ℕ) → let a = c.args in
-    read_number least a.most (drop a.c.at a.text.now) ≡ read_digits least a.most 0 (drop a.c.at a.text.now)
-by_digits_2 c least =
-    let a = c.args in
-    number_digit a.text.now a.c.at least a.most c.if-text-at.false c.if-b-eq48.false (sym c.is_digit.ensures ∙ c.if-not-is_digit.false)
-
 pub returns-then-least-n : goal.returns-then-least-n
 returns-then-least-n c =
     let a = c.args in
-    let pre = c.requires in
-    let any = is_number a.text.now c.in-Number.is c.digits-any.ensures in
-    high_enough a.least a.most pre.1 (drop a.c.at a.text.now) (by_digits c 0) any c.if-least-n.true
+    high_enough a.least a.most c.requires.1 (drop a.c.at a.text.now)
+    (number_digit a.text.now a.c.at 0 a.most c.if-text-at.false c.if-b-eq48.false (sym c.is_digit.ensures ∙ c.if-not-is_digit.false))
+    (is_number a.text.now c.in-Number.is c.digits-any.ensures) c.if-least-n.true
 
 pub returns : goal.returns
 returns c =
     let a = c.args in
-    rw (by_digits_2 c a.least) c.digits.ensures
+    rw (number_digit a.text.now a.c.at a.least a.most c.if-text-at.false c.if-b-eq48.false (sym c.is_digit.ensures ∙ c.if-not-is_digit.false))
+    c.digits.ensures

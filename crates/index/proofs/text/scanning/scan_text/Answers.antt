@@ -28,13 +28,6 @@ pub loop-name-init : goal.loop-name-init
 loop-name-init c =
     let h = c.if-text-eq0.false in (refl, turn_first c.args.text.now c.args.kind (omega arith))
 
-pub read_record-entry-requires : goal.read_record-entry-requires
-read_record-entry-requires c =
-    record {
-      out_len = (c.loop-name.invariant.0, c.loop-name.invariant.1.small);
-      bytes_len = c.letter_bytes-bytes.ensures;
-    }
-
 pub returns-in_default : goal.returns-in_default
 returns-in_default c =
     let l = c.loop-name in

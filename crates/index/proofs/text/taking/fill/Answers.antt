@@ -19,9 +19,6 @@ one_left kind text es {i} {n} s w h = omega (arith, scanned_length kind text n e
 pub loop-i-init : goal.loop-i-init
 loop-i-init c = (omega arith, refl, refl, λ es w. taking_first w)
 
-pub take_record-requires : goal.take_record-requires
-take_record-requires c = record { out_len = c.loop-i.invariant.1; bytes_len = c.letter_bytes-bytes.ensures }
-
 pub returns-in_default : goal.returns-in_default
 returns-in_default c es w =
     let r = c.take_record in

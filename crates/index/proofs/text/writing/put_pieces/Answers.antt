@@ -1,5 +1,5 @@
 -- `index::text::writing::put_pieces` meets its contract: in the loop the letters from k on are left.
-use Prim.Native.Nat.{ℕ, ◌+◌, ◌-◌}
+use Prim.Native.Nat.{ℕ, ◌+◌}
 use mathlib.Core.List.{List}
 use native.Mathlib.Omega.{arith}
 use lib.ListN.{get_or}
@@ -30,6 +30,3 @@ loop-k-preserved c =
 
 pub returns : goal.returns
 returns c = going_last c.loop-k.invariant.2 (todo_none _ _ c.loop-k.k (omega arith))
-
-pub shape_of-out : goal.shape_of-out
-shape_of-out c = c.loop-k.invariant.2.same_length

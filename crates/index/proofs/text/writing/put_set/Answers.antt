@@ -18,9 +18,6 @@ loop-i-init c =
     let f = c.args.first in
     (search rules, search rules, search rules, rw (le-ltb f f (omega arith)) (going_first _ _ _))
 
-pub put_next-at-requires : goal.put_next-at-requires
-put_next-at-requires c = (search rules, search rules, c.table_bytes-bytes.ensures)
-
 pub loop-i-preserved : goal.loop-i-preserved
 loop-i-preserved c =
     let b : List ℕ = c.args.b.now in
@@ -37,6 +34,3 @@ loop-i-preserved c =
 
 pub returns : goal.returns
 returns c = going_last c.loop-i.invariant.3 (rest_end c.args.b.now (ltb c.args.first c.loop-i.i) c.loop-i.i c.args.end c.loop-i-test.false)
-
-pub shape_of-out : goal.shape_of-out
-shape_of-out c = c.loop-i.invariant.3.same_length

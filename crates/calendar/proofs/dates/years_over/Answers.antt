@@ -3,24 +3,18 @@ use Prim.Native.Nat.{suc, ◌*◌, ◌/◌}
 use mathlib.Core.Path.{ap}
 use native.Mathlib.Numerals.{add-one}
 use native.Mathlib.Omega.{arith}
-use borrow.Author.Rules.{rules}
 use Rattle.calendar.specs.Dates.{years_days}
 use Rattle.calendar.proofs.laws.Years.{all_days, years_grow, years_least, years_most}
 use Rattle.calendar.proofs.laws.Dates.{one_more}
-use Rattle.calendar.proofs.dates.years_over.Statement.{statement}
-use Rattle.calendar.proofs.dates.years_over.Tie as tie
+use Rattle.calendar.proofs.dates.years_over.Goals as goal
 
-returns : tie.Need-returns
-returns c = let q = c.before.before.args.n / 366 in omega (arith, years_least q, ap years_days (add-one q))
+pub returns-then-n-years_days : goal.returns-then-n-years_days
+returns-then-n-years_days c = let q = c.args.n / 366 in omega (arith, years_least q, ap years_days (add-one q))
 
-returns-2 : tie.Need-returns-2
-returns-2 c =
-    let n = c.before.before.args.n in
+pub returns-else-n-years_days : goal.returns-else-n-years_days
+returns-else-n-years_days c =
+    let n = c.args.n in
     let q = n / 366 in
     let e = ap years_days (add-one q) in
     rw (add-one q)
     (one_more years_days 430 n q (366 * suc q) years_grow (omega (arith, all_days)) (omega arith) (omega arith) (λ l. years_most q (omega arith)))
-
-pub years_over_spec : {M : Type 1} → statement M
-years_over_spec =
-    tie.close (tie.spec (λ c. search rules) (λ c κs. search rules) (λ c. search rules) returns returns-2)

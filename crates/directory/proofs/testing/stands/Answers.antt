@@ -1,0 +1,89 @@
+-- `testing::stands` meets its contract. The loop's invariant: the records passed lie between their entries, if the block is good.
+use Prim.Native.Nat.{ℕ, ◌+◌, ◌-◌, ◌%◌, ◌≤◌}
+use mathlib.Core.Path.{◌≡◌}
+use native.Mathlib.Omega.{arith}
+use Rattle.index.specs.Block.{key, records, Good}
+use Rattle.index.proofs.laws.Range.{from_none, from_more}
+use Rattle.directory.specs.work.Entries.{Lies, Stands}
+use Rattle.directory.proofs.Numbered.{pair_key}
+use Rattle.directory.proofs.testing.stands.Goals as goal
+
+pub loop-j-init : goal.loop-j-init
+loop-j-init c = (omega arith, λ g l. from_none _ _)
+
+-- The record at hand.
+module _ (c : goal.After-loop-j) where
+  abbrev start : goal.After-loop-j
+  start = c
+
+  abbrev j : ℕ
+  j = c.loop-j.j
+
+  -- Its key, and how it lies.
+  module _ (g : Good start.args.block.now) (few : start.args.end ≤ records start.args.block.now) where
+    key_at : c.pair_of-key.result % 65536 ≡ key start.args.block.now j
+    key_at = pair_key g (omega (arith, c.loop-j-test.true)) c.pair_of-key.ensures
+
+    lies : Stands start.args.block.now start.args.directory.now start.args.at start.args.i start.args.end
+        → Lies start.args.block.now start.args.directory.now start.args.at j
+    lies p = p j c.loop-j.invariant.0 c.loop-j-test.true
+
+pub returns-then-key-ge-NAMES : goal.returns-then-key-ge-NAMES
+returns-then-key-ge-NAMES c =
+    λ g few p. omega (arith, c.if-key-ge-NAMES.true, key_at c g few, g.keys c.loop-j.j (omega (arith, c.loop-j-test.true)))
+
+pub returns-then-directory-at : goal.returns-then-directory-at
+returns-then-directory-at c =
+    λ g few p. omega (arith, c.if-directory-at.true, c.place_of.ensures, rw (← key_at c g few) at (lies c g few p))
+
+pub returns-then-place_of-directory : goal.returns-then-place_of-directory
+returns-then-place_of-directory c =
+    λ g few p. omega (arith, c.if-place_of-directory.true, c.place_of-in-loop-j.ensures, rw (← key_at c g few) at (lies c g few p))
+
+pub loop-j-preserved : goal.loop-j-preserved
+loop-j-preserved c =
+    let args = c.args in (
+      omega arith,
+      λ g few.
+          from_more (Lies args.block.now args.directory.now args.at) args.i c.loop-j.j (c.loop-j.invariant.1 g few)
+          (rw (← key_at c g few) (omega (arith, c.if-directory-at.false, c.place_of.ensures), omega (arith, c.if-place_of-directory.false, c.place_of-in-loop-j.ensures))),
+    )
+
+pub returns : goal.returns
+returns c = λ g few j l h. c.loop-j.invariant.1 g few j l (omega (arith, c.loop-j-test.false))
+
+pub overflow_add-at : goal.overflow_add-at
+overflow_add-at c = omega (arith, c.requires.0, c.well_formed, c.if-key-ge-NAMES.false)
+
+pub offset_bounds-directory-at : goal.offset_bounds-directory-at
+offset_bounds-directory-at c = omega (arith, c.requires.0, c.well_formed, c.if-key-ge-NAMES.false)
+
+pub bounds-directory-at : goal.bounds-directory-at
+bounds-directory-at c = omega (arith, c.requires.0, c.if-key-ge-NAMES.false)
+
+pub place_of-requires : goal.place_of-requires
+place_of-requires c = omega (arith, c.requires.1, c.loop-j-test.true)
+
+pub overflow_add-j : goal.overflow_add-j
+overflow_add-j c = omega (arith, c.requires.1, c.loop-j-test.true)
+
+pub place_of-requires-in-loop-j : goal.place_of-requires-in-loop-j
+place_of-requires-in-loop-j c = omega (arith, c.requires.1, c.loop-j-test.true)
+
+pub overflow_add-at-in-loop-j : goal.overflow_add-at-in-loop-j
+overflow_add-at-in-loop-j c = omega (arith, c.requires.0, c.well_formed, c.if-key-ge-NAMES.false)
+
+pub overflow_add-at-in-loop-j-2 : goal.overflow_add-at-in-loop-j-2
+overflow_add-at-in-loop-j-2 c = omega (arith, c.requires.0, c.well_formed, c.if-key-ge-NAMES.false)
+
+pub offset_bounds-directory-at-in-loop-j : goal.offset_bounds-directory-at-in-loop-j
+offset_bounds-directory-at-in-loop-j c = omega (arith, c.requires.0, c.well_formed, c.if-key-ge-NAMES.false)
+
+pub bounds-directory-at-in-loop-j : goal.bounds-directory-at-in-loop-j
+bounds-directory-at-in-loop-j c = omega (arith, c.requires.0, c.if-key-ge-NAMES.false)
+
+pub overflow_cast-directory : goal.overflow_cast-directory
+overflow_cast-directory c = omega (arith, c.type_inv.directory (c.args.at + c.pair_of-key.result % 65536))
+
+pub overflow_cast-directory-in-loop-j : goal.overflow_cast-directory-in-loop-j
+overflow_cast-directory-in-loop-j c = omega (arith, c.type_inv.directory (c.args.at + c.pair_of-key.result % 65536 + 1))
