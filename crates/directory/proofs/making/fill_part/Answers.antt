@@ -2,13 +2,13 @@
 use Prim.Native.Nat.{ℕ, ◌+◌, ◌-◌, ◌%◌, ◌<◌, ◌≤◌}
 use mathlib.Core.Path.{◌≡◌, ◌∙◌}
 use native.Mathlib.Omega.{arith}
-use mathlib.Core.Logic.{⊎_elim}
 use Rattle.index.specs.Block.{key, Of}
 use Rattle.index.proofs.laws.block.Records.{of_records}
 use Rattle.directory.proofs.Numbered.{pair_key, key_name, keys_rise, place_few}
 use Rattle.directory.proofs.OneDirectory.{part_in}
 use Rattle.directory.proofs.Writing.{through_none, through_same, through_more, part_filled}
 use Rattle.directory.proofs.making.fill_part.Goals as goal
+use Rattle.directory.proofs.making.fill_part.Goals.{then-x-next, else-x-next}
 
 pub loop-i-init : goal.loop-i-init
 loop-i-init c = (omega (arith, c.part_of-part.ensures.first, c.part_of-part.ensures.last), through_none _ _ _ _ _)
@@ -27,10 +27,10 @@ module _ (c : goal.Joined-x-next) where
       (omega (arith, part.first, c.loop-i.invariant.1.low), omega (arith, part.last, c.loop-i-test.true))
 
   key_at : c.pair_of.result % 65536 ≡ key start.args.block.now i
-  key_at = pair_key start.pre.0 (of_records start.args.kind _ i of) c.pair_of.ensures
+  key_at = pair_key start.requires.0 (of_records start.args.kind _ i of) c.pair_of.ensures
 
   named : key start.args.block.now i < 1024
-  named = key_name start.pre.0 start.args.kind of
+  named = key_name start.requires.0 start.args.kind of
 
 -- The record at hand: it is of the kind, and the door gives its key.
 module _ (c : goal.After-place_of) where
@@ -46,10 +46,10 @@ module _ (c : goal.After-place_of) where
       (omega (arith, part.first, c.loop-i.invariant.1.low), omega (arith, part.last, c.loop-i-test.true))
 
   key_at_2 : c.pair_of.result % 65536 ≡ key start_2.args.block.now i_2
-  key_at_2 = pair_key start_2.pre.0 (of_records start_2.args.kind _ i_2 of_2) c.pair_of.ensures
+  key_at_2 = pair_key start_2.requires.0 (of_records start_2.args.kind _ i_2 of_2) c.pair_of.ensures
 
   named_2 : key start_2.args.block.now i_2 < 1024
-  named_2 = key_name start_2.pre.0 start_2.args.kind of_2
+  named_2 = key_name start_2.requires.0 start_2.args.kind of_2
 
 -- The part lies in the directory.
 ends : (c : goal.After-put-arg-1) → c.part_at-at.result + 1025 ≤ 3075
@@ -76,16 +76,16 @@ loop-i-preserved c =
     let inv = c.loop-i.invariant in
     let k = key_at at in
     let h = c.loop-i-test.true in
-    ⊎_elim
-    (λ w.
-    rw (w.6, w.7, k) (
-      omega arith,
-      through_more
-          (λ r s l m n. keys_rise begun.pre.0 kind r s m (omega (arith, part.first, part.last)) (omega (arith, part.first, part.last)))
-          inv.1 h (omega (arith, w.0.taken)) (named at) (rw k at w.3.ensures) w.2.ensures,
-    ))
-    (λ w. rw (w.1, w.2) (omega arith, through_same inv.1 h (omega (arith, w.0.left))))
-    c.if-x-next.branch
+    elim c.if-x-next.branch [
+      | then-x-next w ↦
+          rw (w.directory-is, w.x-is, k) (
+            omega arith,
+            through_more
+                (λ r s l m n. keys_rise begun.requires.0 kind r s m (omega (arith, part.first, part.last)) (omega (arith, part.first, part.last)))
+                inv.1 h (omega (arith, w.if-x-next.true)) (named at) (rw k at w.put.ensures) w.place_of.ensures,
+          )
+      | else-x-next w ↦ rw (w.directory-is, w.x-is) (omega arith, through_same inv.1 h (omega (arith, w.if-x-next.false)))
+    ]
 
 pub returns : goal.returns
 returns c =

@@ -5,6 +5,3 @@ use Rattle.directory.proofs.making.fill_part.Given as goal
 
 abbrev pub invariant-loop-i : goal.invariant-loop-i
 invariant-loop-i l = (l.i ≤ l.part.end) × Through l.block l.part.from l.part.end l.at l.initial.directory l.directory l.i l.x
-
-abbrev pub decreases-loop-i : goal.decreases-loop-i
-decreases-loop-i l = i-end - l.i

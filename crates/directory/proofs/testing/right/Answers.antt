@@ -60,4 +60,4 @@ returns c =
     let s : Says (Stands b args.directory.now (part_start kind) (from b kind) (from b kind + size b kind)) c.stands.result =
     rw (← part.last, ← part.first, ← c.part_at-at.ensures)
     (c.stands.ensures g (omega (arith, part.last, gap_in kind b (from b kind + size b kind) (omega arith)))) in
-    says_same c.stands.result (λ p. record { rises_2 = up; stands = p }) (λ p. p.stands) s
+    says_same c.stands.result (λ p. record { rises = up; stands = p }) (λ p. p.stands) s

@@ -12,8 +12,8 @@ pub loop-j-init : goal.loop-j-init
 loop-j-init c = (omega arith, λ g l. from_none _ _)
 
 -- The record at hand.
-module _ (c : goal.After-loop-j) where
-  abbrev start : goal.After-loop-j
+module _ (c : goal.Then-key-ge-NAMES) where
+  abbrev start : goal.Then-key-ge-NAMES
   start = c
 
   abbrev j : ℕ
@@ -28,17 +28,68 @@ module _ (c : goal.After-loop-j) where
         → Lies start.args.block.now start.args.directory.now start.args.at j
     lies p = p j c.loop-j.invariant.0 c.loop-j-test.true
 
+-- The record at hand.
+module _ (c : goal.Then-directory-at) where
+  abbrev start_2 : goal.Then-directory-at
+  start_2 = c
+
+  abbrev j_2 : ℕ
+  j_2 = c.loop-j.j
+
+  -- Its key, and how it lies_2.
+  module _ (g : Good start_2.args.block.now) (few : start_2.args.end ≤ records start_2.args.block.now) where
+    key_at_2 : c.pair_of-key.result % 65536 ≡ key start_2.args.block.now j_2
+    key_at_2 = pair_key g (omega (arith, c.loop-j-test.true)) c.pair_of-key.ensures
+
+    lies_2 : Stands start_2.args.block.now start_2.args.directory.now start_2.args.at start_2.args.i start_2.args.end
+        → Lies start_2.args.block.now start_2.args.directory.now start_2.args.at j_2
+    lies_2 p = p j_2 c.loop-j.invariant.0 c.loop-j-test.true
+
+-- The record at hand.
+module _ (c : goal.Then-place_of-directory) where
+  abbrev start_3 : goal.Then-place_of-directory
+  start_3 = c
+
+  abbrev j_3 : ℕ
+  j_3 = c.loop-j.j
+
+  -- Its key, and how it lies_3.
+  module _ (g : Good start_3.args.block.now) (few : start_3.args.end ≤ records start_3.args.block.now) where
+    key_at_3 : c.pair_of-key.result % 65536 ≡ key start_3.args.block.now j_3
+    key_at_3 = pair_key g (omega (arith, c.loop-j-test.true)) c.pair_of-key.ensures
+
+    lies_3 : Stands start_3.args.block.now start_3.args.directory.now start_3.args.at start_3.args.i start_3.args.end
+        → Lies start_3.args.block.now start_3.args.directory.now start_3.args.at j_3
+    lies_3 p = p j_3 c.loop-j.invariant.0 c.loop-j-test.true
+
+-- The record at hand.
+module _ (c : goal.Else-place_of-directory) where
+  abbrev start_4 : goal.Else-place_of-directory
+  start_4 = c
+
+  abbrev j_4 : ℕ
+  j_4 = c.loop-j.j
+
+  -- Its key, and how it lies_4.
+  module _ (g : Good start_4.args.block.now) (few : start_4.args.end ≤ records start_4.args.block.now) where
+    key_at_4 : c.pair_of-key.result % 65536 ≡ key start_4.args.block.now j_4
+    key_at_4 = pair_key g (omega (arith, c.loop-j-test.true)) c.pair_of-key.ensures
+
+    lies_4 : Stands start_4.args.block.now start_4.args.directory.now start_4.args.at start_4.args.i start_4.args.end
+        → Lies start_4.args.block.now start_4.args.directory.now start_4.args.at j_4
+    lies_4 p = p j_4 c.loop-j.invariant.0 c.loop-j-test.true
+
 pub returns-then-key-ge-NAMES : goal.returns-then-key-ge-NAMES
 returns-then-key-ge-NAMES c =
     λ g few p. omega (arith, c.if-key-ge-NAMES.true, key_at c g few, g.keys c.loop-j.j (omega (arith, c.loop-j-test.true)))
 
 pub returns-then-directory-at : goal.returns-then-directory-at
 returns-then-directory-at c =
-    λ g few p. omega (arith, c.if-directory-at.true, c.place_of.ensures, rw (← key_at c g few) at (lies c g few p))
+    λ g few p. omega (arith, c.if-directory-at.true, c.place_of.ensures, rw (← key_at_2 c g few) at (lies_2 c g few p))
 
 pub returns-then-place_of-directory : goal.returns-then-place_of-directory
 returns-then-place_of-directory c =
-    λ g few p. omega (arith, c.if-place_of-directory.true, c.place_of-in-loop-j.ensures, rw (← key_at c g few) at (lies c g few p))
+    λ g few p. omega (arith, c.if-place_of-directory.true, c.place_of-in-loop-j.ensures, rw (← key_at_3 c g few) at (lies_3 c g few p))
 
 pub loop-j-preserved : goal.loop-j-preserved
 loop-j-preserved c =
@@ -46,11 +97,11 @@ loop-j-preserved c =
       omega arith,
       λ g few.
           from_more (Lies args.block.now args.directory.now args.at) args.i c.loop-j.j (c.loop-j.invariant.1 g few)
-          (rw (← key_at c g few) (omega (arith, c.if-directory-at.false, c.place_of.ensures), omega (arith, c.if-place_of-directory.false, c.place_of-in-loop-j.ensures))),
+          (rw (← key_at_4 c g few) (omega (arith, c.if-directory-at.false, c.place_of.ensures), omega (arith, c.if-place_of-directory.false, c.place_of-in-loop-j.ensures))),
     )
 
 pub returns : goal.returns
-returns c = λ g few j l h. c.loop-j.invariant.1 g few j l (omega (arith, c.loop-j-test.false))
+returns c = λ g few j_5 l h. c.loop-j.invariant.1 g few j_5 l (omega (arith, c.loop-j-test.false))
 
 pub overflow_add-at : goal.overflow_add-at
 overflow_add-at c = omega (arith, c.requires.0, c.well_formed, c.if-key-ge-NAMES.false)
