@@ -7,7 +7,7 @@ use Rattle.rights.specs.Chain.{Chain}
 use Rattle.rights.specs.Held.{Carries}
 
 -- "A name's mark in round n is the set of rights that some chain of at most n records carries to it": right k is in the mark of
--- x, where the walk starts at s. So "in round 0 the start has all four, the others none" (law `round-zero`).
+-- x, where the walk starts at s. So "in round 0 the start has all four, the others none" (law `round_zero`).
 unfoldable pub Mark : List ℕ → ℕ → ℕ → ℕ → ℕ → Type 0
 Mark b s n x k = Chain (Carries b k) n s x
 

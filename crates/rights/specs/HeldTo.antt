@@ -17,7 +17,7 @@ limit_needs b u o request Allowed = last_needs b u o request 14 Allowed
 abbrev pub HeldWithin : ℕ → List ℕ → ℕ → ℕ → ℕ → (ℕ × ℕ) → Type 0
 HeldWithin limit b u o request a = (a.0 ≡ 0) × Limited Ordinary limit b u o request a.1
 
--- rights_to, "the main walk held to that limit": the number, and the rights. With the limit 32 they are the full question's (law `to-32`); a limit
+-- rights_to, "the main walk held to that limit": the number, and the rights. With the limit 32 they are the full question's (law `to_32`); a limit
 -- above it is refused, since no chain of the rules has more records.
 unfoldable pub HeldTo : List ℕ → ℕ → ℕ → ℕ → ℕ → (ℕ × ℕ) → Type 0
 HeldTo b u o request limit a =

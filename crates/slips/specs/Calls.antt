@@ -62,7 +62,7 @@ Found b u o right us os a =
 abbrev pub NoneFound : List ℕ → ℕ → ℕ → ℕ → List ℕ → List ℕ → Outcome → Type 0
 NoneFound b u o right us os a = (ForRight right (Holds chain_limit b u o) → ⊥) × (a ≡ (0, 0, 0, us, os))
 
--- find_slip. "A slip is found exactly when the right is held" (law `found-held`).
+-- find_slip. "A slip is found exactly when the right is held" (law `found_held`).
 unfoldable pub FindsSlip : List ℕ → ℕ → ℕ → ℕ → List ℕ → List ℕ → Outcome → Type 0
 FindsSlip b u o right us os a =
     First (λ n. (n, 0, 0, us, os)) (find_needs b u o right us os) (λ a. Found b u o right us os a ⊎ NoneFound b u o right us os a) a

@@ -26,7 +26,7 @@ agrees mask = ltb (formula mask) (2 ^ right_count) && all (right mask) 0 right_c
 all_agree : all agrees 0 (2 ^ letter_count) ≡ true
 all_agree = refl
 
--- The net mask of the record that one statement left is what the formula gives (`OneDoor.one-net`: it has no other).
+-- The net mask of the record that one statement left is what the formula gives (`OneDoor.one_net`: it has no other).
 pub one_statement : (b : List ℕ) (i mask : ℕ) → mask < 2 ^ letter_count → OneStatement b i mask → Mask (formula mask) (NetAt b i)
 one_statement b i mask small once =
     let p = both (ltb (formula mask) (2 ^ right_count)) (all (right mask) 0 right_count) (all_at agrees 0 (2 ^ letter_count) all_agree mask (omega arith) (omega arith)) in (
