@@ -26,8 +26,8 @@ month_days year month = get_or (0 ∷ months year) month 0
 
 -- Neither "a date that is none" nor one "outside the range".
 pub record IsDate (d : Date) : Type 0 where
-  pub first_year_lem : first_year ≤ d.year
-  pub last_year_lem : d.year ≤ last_year
+  pub not_before : first_year ≤ d.year
+  pub not_after : d.year ≤ last_year
   pub first_day : 1 ≤ d.day
   pub last_day : d.day ≤ month_days d.year d.month
 

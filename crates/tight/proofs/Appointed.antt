@@ -41,7 +41,7 @@ Damaged l old new n = (days_fail l old new ≡ n) × (n ≡ 0 → ⊥)
 
 abbrev Test : Case → Type 0
 Test (Case.day y m d n) = (date_test (date y m d) ≡ true) × (day_number (date y m d) ≡ n)
-Test (Case.no_date_lem y m d) = date_test (date y m d) ≡ false
+Test (Case.no_such_date y m d) = date_test (date y m d) ≡ false
 Test (Case.no_day n) = leb n 157053 ≡ false
 Test (Case.later first term d) = (term_test first term ≡ true) × (anniversary first term ≡ d)
 Test (Case.no_term first term) = term_test first term ≡ false
@@ -67,7 +67,7 @@ unfolding DayOf DateOf AnniversaryOf
 means (Case.day y m d n) e =
     let p = day_test y m d n e.0 e.1 in
     (p, (each_way y m d n).0 p)
-means (Case.no_date_lem y m d) e = inl ((λ i. no_is e i (date_says (date y m d))), refl)
+means (Case.no_such_date y m d) e = inl ((λ i. no_is e i (date_says (date y m d))), refl)
 means (Case.no_day n) e = inl ((λ i. no_is e i (day_says n)), refl)
 means (Case.later first term d) e = inr (yes_is e.0 (term_says first term), (refl, sym e.1))
 means (Case.no_term first term) e = inl ((λ t. no_is e t (term_says first term)), refl)

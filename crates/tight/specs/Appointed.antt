@@ -14,7 +14,7 @@ pub data Case : Type 0 where
   -- the date has this day, and the day this date
   day : (year month day n : ℕ) → Case
   -- it is no date of the range
-  no_date_lem : (year month day : ℕ) → Case
+  no_such_date : (year month day : ℕ) → Case
   -- it is no day of the range
   no_day : (n : ℕ) → Case
   -- so many months after the first date is this one
@@ -34,7 +34,7 @@ pub data Case : Type 0 where
 
 abbrev pub Shows : Case → Type 0
 Shows (Case.day y m d n) = DayOf y m d (0, n) × DateOf n (0, date y m d)
-Shows (Case.no_date_lem y m d) = DayOf y m d (12, 0)
+Shows (Case.no_such_date y m d) = DayOf y m d (12, 0)
 Shows (Case.no_day n) = DateOf n (12, no_date)
 Shows (Case.later first term d) = AnniversaryOf first term (0, d)
 Shows (Case.no_term first term) = AnniversaryOf first term (12, no_date)
@@ -59,21 +59,21 @@ dates =
     -- "1 January 1970 to 31 December 2399", "day 0 being the first"
     Case.day 1970 1 1 0
     ∷ Case.day 2399 12 31 157053
-    ∷ Case.no_date_lem 1969 12 31
-    ∷ Case.no_date_lem 2400 1 1
+    ∷ Case.no_such_date 1969 12 31
+    ∷ Case.no_such_date 2400 1 1
     ∷ Case.no_day 157054
     -- "29 February 2024 (day 19,782)", "28 February 2025 (day 20,147)"
     ∷ Case.day 2024 2 29 19782
     ∷ Case.day 2025 2 28 20147
     -- leap years
-    ∷ Case.no_date_lem 2023 2 29
+    ∷ Case.no_such_date 2023 2 29
     ∷ Case.day 2000 2 29 11016
-    ∷ Case.no_date_lem 2100 2 29
+    ∷ Case.no_such_date 2100 2 29
     -- no month, no day of the month
-    ∷ Case.no_date_lem 2024 0 1
-    ∷ Case.no_date_lem 2024 13 1
-    ∷ Case.no_date_lem 2024 4 31
-    ∷ Case.no_date_lem 2024 4 0 ∷ []
+    ∷ Case.no_such_date 2024 0 1
+    ∷ Case.no_such_date 2024 13 1
+    ∷ Case.no_such_date 2024 4 31
+    ∷ Case.no_such_date 2024 4 0 ∷ []
 
 abbrev pub terms : List Case
 terms =

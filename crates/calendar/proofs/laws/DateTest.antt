@@ -16,8 +16,8 @@ date_test d = leb first_year d.year && (leb d.year last_year && (leb 1 d.day && 
 pub date_says : (d : Date) → Says (IsDate d) (date_test d)
 date_says d =
     says_same (date_test d)
-    (λ p. record { first_year_lem = p.0; last_year_lem = p.1.0; first_day = p.1.1.0; last_day = p.1.1.1 })
-    (λ i. (i.first_year_lem, (i.last_year_lem, (i.first_day, i.last_day))))
+    (λ p. record { not_before = p.0; not_after = p.1.0; first_day = p.1.1.0; last_day = p.1.1.1 })
+    (λ i. (i.not_before, (i.not_after, (i.first_day, i.last_day))))
     (says_and _ _ (leb first_year d.year) _ (most_says first_year d.year)
     (says_and _ _ (leb d.year last_year) _ (most_says d.year last_year)
     (says_and _ _ (leb 1 d.day) _ (most_says 1 d.day) (most_says d.day (month_days d.year d.month)))))

@@ -30,7 +30,7 @@ within d i =
     let m = is_month d.year d.month (omega arith) in
     let e = month_end d.year d.month m.0 in
     let f = in_year d.year d.month m.1 in
-    let g = year_end d.year i.first_year_lem in
+    let g = year_end d.year i.not_before in
     record {
       first_month = m.0;
       last_month = m.1;
@@ -104,7 +104,7 @@ day_most n h = omega (arith, last_day)
 pub in_range : (d : Date) → IsDate d → IsDay (day_number d)
 in_range d i =
     let w = within d i in
-    is_day (day_number d) (omega (arith, years_grow (suc (d.year - 1970)) 430 (omega (arith, i.first_year_lem, i.last_year_lem)), all_days))
+    is_day (day_number d) (omega (arith, years_grow (suc (d.year - 1970)) 430 (omega (arith, i.not_before, i.not_after)), all_days))
 
 -- ---- the date of a day
 
@@ -120,8 +120,8 @@ made y i n h a b =
     let f : i + 1 - 1 ≡ i = omega arith in
     let g : 1970 + y - 1970 ≡ y = omega arith in (
       record {
-        first_year_lem = omega arith;
-        last_year_lem = omega arith;
+        not_before = omega arith;
+        not_after = omega arith;
         first_day = omega arith;
         last_day = rw e (omega (arith, sum_step (months (1970 + y)) i));
       },

@@ -50,4 +50,4 @@ unfolding DateOf
 date_bound n d (inl r) = absurd (omega (arith, ap (λ (o : ℕ × Date). o.0) r.1))
 date_bound n d (inr r) =
     let i = r.1.1.0 in
-    (omega (arith, i.last_day, month_most d.year d.month), (within d i).last_month, i.last_year_lem)
+    (omega (arith, i.last_day, month_most d.year d.month), (within d i).last_month, i.not_after)

@@ -23,4 +23,4 @@ to_march y = lands (12 * y + (1 - 1) + 2) y 3 31 (omega arith) (omega arith)
 
 -- No term has its anniversary on 1 January 2400.
 pub not_2400 : (first : Date) (term : ℕ) → IsTerm first term → anniversary first term ≡ date 2400 1 1 → ⊥
-not_2400 first term t e = omega (arith, t.ends.last_year_lem, ap (λ (d : Date). d.year) e)
+not_2400 first term t e = omega (arith, t.ends.not_after, ap (λ (d : Date). d.year) e)

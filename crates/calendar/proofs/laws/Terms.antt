@@ -21,8 +21,8 @@ ends d k i h =
     let e : month_days (n / 12) (n % 12 + 1) ≡ month_days (n / 12) (suc (n % 12)) = ap (month_days (n / 12)) (add-one (n % 12)) in
     let m = each_month (n / 12) (n % 12) (omega arith) in
     record {
-      first_year_lem = omega (arith, i.first_year_lem);
-      last_year_lem = h;
+      not_before = omega (arith, i.not_before);
+      not_after = h;
       first_day = omega (arith, i.first_day);
       last_day = omega arith;
     }

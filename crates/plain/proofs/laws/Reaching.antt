@@ -28,7 +28,7 @@ first_leads g l x z m other here = absurd (other refl)
 first_leads {b} g l x z m other (through y s c) =
     let w = linked_where g l x y s in
     let e = sym w.1.has_id in
-    (w.0, omega (arith, w.1.of.1), w.1.has_key_lem, subst (Linked b l x) e s, subst (λ (y : ℕ). Chain (Linked b l) m y z) e c)
+    (w.0, omega (arith, w.1.of.1), w.1.has_key, subst (Linked b l x) e s, subst (λ (y : ℕ). Chain (Linked b l) m y z) e c)
 
 module _ {b : List ℕ} (g : Good b) (l : Link) (x z : ℕ) where
   -- ---- is it reached?

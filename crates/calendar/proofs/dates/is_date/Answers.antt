@@ -6,4 +6,4 @@ pub returns-then-d-month_days : goal.returns-then-d-month_days
 returns-then-d-month_days c = λ i. omega (arith, i.last_day)
 
 pub returns : goal.returns
-returns c = record { first_year_lem = omega arith; last_year_lem = omega arith; first_day = omega arith; last_day = omega arith }
+returns c = record { not_before = omega arith; not_after = omega arith; first_day = omega arith; last_day = omega arith }

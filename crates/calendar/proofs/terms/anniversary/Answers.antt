@@ -24,7 +24,7 @@ unfolding AnniversaryOf DateAnswers
 returns-then-months-gt-LONGEST_TERM c = (omega arith, inl ((λ t. omega (arith, t.most)), refl))
 
 pub overflow_mul-n : goal.overflow_mul-n
-overflow_mul-n c = omega (arith, (yes_not c.is_date.result (ap not c.if-not-is_date.false) c.is_date.ensures).last_year_lem)
+overflow_mul-n c = omega (arith, (yes_not c.is_date.result (ap not c.if-not-is_date.false) c.is_date.ensures).not_after)
 
 pub overflow_sub-n : goal.overflow_sub-n
 overflow_sub-n c = (within c.args.first (yes_not c.is_date.result (ap not c.if-not-is_date.false) c.is_date.ensures)).first_month
@@ -32,16 +32,16 @@ overflow_sub-n c = (within c.args.first (yes_not c.is_date.result (ap not c.if-n
 pub overflow_add-n : goal.overflow_add-n
 overflow_add-n c =
     let i = yes_not c.is_date.result (ap not c.if-not-is_date.false) c.is_date.ensures in
-    omega (arith, i.last_year_lem, (within c.args.first i).last_month)
+    omega (arith, i.not_after, (within c.args.first i).last_month)
 
 pub overflow_add-n-2 : goal.overflow_add-n-2
 overflow_add-n-2 c =
     let i = yes_not c.is_date.result (ap not c.if-not-is_date.false) c.is_date.ensures in
-    omega (arith, i.last_year_lem, (within c.args.first i).last_month)
+    omega (arith, i.not_after, (within c.args.first i).last_month)
 
 pub returns-then-year-gt-LAST_YEAR : goal.returns-then-year-gt-LAST_YEAR
 unfolding AnniversaryOf DateAnswers anniversary in_month
-returns-then-year-gt-LAST_YEAR c = (omega arith, inl ((λ t. omega (arith, t.ends.last_year_lem)), refl))
+returns-then-year-gt-LAST_YEAR c = (omega arith, inl ((λ t. omega (arith, t.ends.not_after)), refl))
 
 pub returns : goal.returns
 unfolding AnniversaryOf DateAnswers anniversary in_month

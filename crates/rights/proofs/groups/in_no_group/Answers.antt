@@ -34,5 +34,5 @@ returns c =
     let s = c in
     λ y m.
     let w = member_where s.requires.1.0 m in
-    let k = (c.records_of-groups.ensures w.0).1 (w.1.of, w.1.has_key_lem) in
-    c.loop-i.invariant.1 w.0 k.0 (omega (arith, k.1, c.loop-i-test.false)) (rw (w.1.has_key_lem, w.1.has_id) m)
+    let k = (c.records_of-groups.ensures w.0).1 (w.1.of, w.1.has_key) in
+    c.loop-i.invariant.1 w.0 k.0 (omega (arith, k.1, c.loop-i-test.false)) (rw (w.1.has_key, w.1.has_id) m)

@@ -38,4 +38,4 @@ returns c =
     λ m.
     let w = member_where c.requires m.2.0.0 in
     c.loop-i.invariant.1 w.0 (omega arith) (omega (arith, w.1.of.1, c.loop-i-test.false, c.size_of-end.ensures))
-    (rw (w.1.has_key_lem, w.1.has_id) (m.2, m.3, m.4))
+    (rw (w.1.has_key, w.1.has_id) (m.2, m.3, m.4))

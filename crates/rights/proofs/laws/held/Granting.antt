@@ -85,7 +85,7 @@ module _ {Q : ℕ → ℕ → Type 0} {b us os : List ℕ} {q i r : ℕ} (so_far
               let w = told.where_is k t.4 in
               let of = w.1.of in
               let meets : Meets Q b us os q w.0 k =
-              ((told.at k h w.1).1 t.4, (reached_in b us os q w.0 k).1 (rw w.1.has_key_lem t.2, rw w.1.has_id t.3, asked)) in (
+              ((told.at k h w.1).1 t.4, (reached_in b us os q w.0 k).1 (rw w.1.has_key t.2, rw w.1.has_id t.3, asked)) in (
                 w.0,
                 of,
                 ⊎_elim (λ l. l) (λ l. absurd (unmarked Q b us os q w.0 k (none w.0 of l) meets)) (lt_or_le w.0 i),

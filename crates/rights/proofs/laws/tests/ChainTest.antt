@@ -163,8 +163,8 @@ module _ (b : List ℕ) (link : ℕ → Bool) where
             omega arith,
             omega (arith, w.1.of.1),
             w.1.has_id,
-            and_true (subst (λ (x : ℕ). member x l ≡ true) (sym w.1.has_key_lem) t.1)
-                ((takes w.0 w.1.of).1 (rw (w.1.has_key_lem, w.1.has_id) t.2)),
+            and_true (subst (λ (x : ℕ). member x l ≡ true) (sym w.1.has_key) t.1)
+                ((takes w.0 w.1.of).1 (rw (w.1.has_key, w.1.has_id) t.2)),
           ))
           s),
     )

@@ -115,7 +115,7 @@ module _ {b : List ℕ} (g : Good b) (s : ℕ) where
       (λ not.
       let w = net_where g Membership k t.2 in
       let d : Differs b s r t.0 = (k, h, t.1, not) in
-      absurd (still w.0 (omega (arith, w.1.of.1)) (rw w.1.has_key_lem d)))
+      absurd (still w.0 (omega (arith, w.1.of.1)) (rw w.1.has_key d)))
       (decided (before_test b s r t.0 k) (before_test_lem r t.0 k h)))
       ((one_more r s x).0 c)
 
