@@ -18,20 +18,20 @@ pub side-of_object-requires : goal.side-of_object-requires
 side-of_object-requires c =
     let start = c in
     let side = c.side-of_user in
-    record { sized = (start.requires.sized.0, (start.requires.sized.1.0, (start.requires.sized.1.1, (start.requires.name.1.0, (side.ensures.count.1, start.requires.name.1.1))))); marks_value = (search rules, (search rules, search rules)) }
+    record { sized = (start.requires.sized.0, (start.requires.sized.1.0, (start.requires.sized.1.1, (start.requires.name.1.0, (side.ensures.firsts, start.requires.name.1.1))))); marks_value = (search rules, (search rules, search rules)) }
 
 -- No number of records examined is above 8,192.
 few : (c : goal.After-search-rights) {r t : ℕ} (name : ℕ) → Count c.args.block.now r name t → t ≤ 8192
 few c name n = examined_bound name c.requires.sized.0 c.requires.sized.1.0 n.sum
 
 pub overflow_cast-result : goal.overflow_cast-result
-overflow_cast-result c = omega (arith, few c _ (c.side-of_user.ensures.count.0 refl))
+overflow_cast-result c = omega (arith, few c _ (c.side-of_user.ensures.count refl))
 
 pub overflow_cast-result-2 : goal.overflow_cast-result-2
-overflow_cast-result-2 c = omega (arith, few c _ (c.side-of_object.ensures.count.0 refl))
+overflow_cast-result-2 c = omega (arith, few c _ (c.side-of_object.ensures.count refl))
 
 pub returns : goal.returns
 returns c =
     let args = c.args in
     let of-user = c.side-of_user.ensures in
-    let of-object = c.side-of_object.ensures in record { mask = reached args.limit args.block.now _ _ args.user args.object (search rules) of-user.0 of-object.0 args.profile args.request c.search-rights.ensures; count = (of-user.1.0 refl, of-object.1.0 refl) }
+    let of-object = c.side-of_object.ensures in record { mask = reached args.limit args.block.now _ _ args.user args.object (search rules) of-user.side of-object.side args.profile args.request c.search-rights.ensures; count = (of-user.count refl, of-object.count refl) }

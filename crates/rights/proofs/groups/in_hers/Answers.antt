@@ -27,7 +27,7 @@ returns-then-not-meets c =
 pub side-requires-2 : goal.side-requires-2
 side-requires-2 c =
     let start = c in
-    record { sized = (start.requires.sized.0, (start.requires.sized.1.0, (start.requires.sized.1.1, (start.requires.name.1.0, (c.side.ensures.count.1, start.requires.name.1.1))))); marks_value = (search rules, (search rules, search rules)) }
+    record { sized = (start.requires.sized.0, (start.requires.sized.1.0, (start.requires.sized.1.1, (start.requires.name.1.0, (c.side.ensures.firsts, start.requires.name.1.1))))); marks_value = (search rules, (search rules, search rules)) }
 
 pub meets-requires-2 : goal.meets-requires-2
 meets-requires-2 c = c.requires.sized.1.0

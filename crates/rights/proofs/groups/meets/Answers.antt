@@ -10,10 +10,8 @@ use Rattle.index.proofs.laws.Range.{from_more}
 use Rattle.rights.specs.Groups.{WithoutN, Closes}
 use Rattle.rights.specs.work.Marks.{Meets}
 use Rattle.rights.proofs.laws.held.Members.{member_where}
+use Rattle.rights.proofs.groups.meets.Invariants.{MeetsAt}
 use Rattle.rights.proofs.groups.meets.Goals as goal
-
-abbrev MeetsAt : List ℕ → List ℕ → List ℕ → ℕ → Type 0
-MeetsAt b us os i = Closes b (key b i) (id b i) × (0 < get_or us (key b i) 0) × (0 < get_or os (id b i) 0)
 
 pub loop-i-init : goal.loop-i-init
 loop-i-init c = (omega arith, λ j l h. absurd (omega arith))

@@ -203,7 +203,7 @@ pub overflow_cast-wanted : goal.overflow_cast-wanted
 overflow_cast-wanted c = omega (arith, (all c).small)
 
 pub filter_of-requires : goal.filter_of-requires
-filter_of-requires c = ((all c).sized, ((all c).well_formed, (c.requires.1.1, (all c).object)))
+filter_of-requires c = ((all c).sized, ((all c).good, (c.requires.1.1, (all c).object)))
 
 pub returns-then-filter_of-wanted : goal.returns-then-filter_of-wanted
 returns-then-filter_of-wanted c =

@@ -58,4 +58,4 @@ returns c =
     let reach = c.within-reach.result in
     let told = rw c.profile_of.ensures at c.within-reach.ensures in
     accepts args.block.now args.user args.object args.request 15 _ unreported (Reports (profile_of args.profile) args.block.now args.user args.object args.request)
-    (0, reach.rights, reach.user, reach.object) (all_3 passed) (passes_3 passed).1 (refl, told.0, told.1.0.sum, told.1.1.sum)
+    (0, reach.rights, reach.user, reach.object) (all_3 passed) (passes_3 passed).1 (refl, told.limited, told.count.0.sum, told.count.1.sum)

@@ -4,13 +4,13 @@ use Rattle.rights.proofs.laws.questions.Asking.{limited}
 use Rattle.rights.proofs.questions.within.Goals as goal
 
 pub filter_of-requires : goal.filter_of-requires
-filter_of-requires c = let pre = c.requires in (pre.0.0, (pre.0.1.0, (pre.0.1.1, pre.1.1.0)))
+filter_of-requires c = let pre = c.requires in (pre.sized.0, (pre.sized.1.0, (pre.sized.1.1, pre.name.1.0)))
 
 pub granted-reach-requires : goal.granted-reach-requires
 granted-reach-requires c = c.requires
 
 pub opened-rights-requires : goal.opened-rights-requires
-opened-rights-requires c = let pre = c.requires in record { sized = pre.0; name = (pre.1.0, (pre.1.1.0, (c.granted-reach.ensures.mask.0, pre.1.1.1))) }
+opened-rights-requires c = let pre = c.requires in record { sized = pre.sized; name = (pre.name.0, (pre.name.1.0, (c.granted-reach.ensures.mask.0, pre.name.1.1))) }
 
 pub returns : goal.returns
 returns c =
