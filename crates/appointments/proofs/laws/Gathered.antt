@@ -1,6 +1,6 @@
 -- Changes are gathered from a list of appointments, one after the other.
 use Prim.Native.Nat.{ℕ, ◌+◌, ◌<◌, ◌≤◌}
-use mathlib.Core.Path.{◌≡◌, refl, sym, ap, ◌∙◌}
+use mathlib.Core.Path.{◌≡◌, sym, ap, ◌∙◌}
 use mathlib.Core.Bool.{Bool, true, false}
 use mathlib.Core.List.{List, [], ◌∷◌, ◌++◌, append_assoc, append-nil}
 use native.Mathlib.Omega.{arith}
@@ -9,7 +9,7 @@ use Rattle.index.specs.Message.{Half, packed_change}
 use Rattle.index.specs.work.Edits.{change_of}
 use Rattle.index.specs.work.Pairing.{Listing}
 use Rattle.index.proofs.laws.message.PairsListed.{listing_none, listing_more}
-use Rattle.appointments.specs.Appointment.{Appointment, list_size, appointment_at, only_on, those, standing_only}
+use Rattle.appointments.specs.Appointment.{list_size, appointment_at, only_on, those, standing_only}
 use Rattle.appointments.proofs.laws.Rest.{rest, rest_all, rest_more, rest_none}
 use Rattle.appointments.proofs.laws.Picked.{those_yes, those_no}
 

@@ -1,20 +1,20 @@
 -- The first day on which an appointment, or a list of them, stands otherwise than on a day.
 use Prim.Native.Nat.{ℕ, ◌+◌, ◌<◌, ◌≤◌}
 use mathlib.Core.Path.{◌≡◌, refl, sym, subst, ◌∙◌}
-use mathlib.Core.Bool.{Bool, true, false, cond, not, ◌&&◌}
+use mathlib.Core.Bool.{Bool, true, false, not, ◌&&◌}
 use mathlib.Core.List.{List}
 use mathlib.Core.Logic.{◌⊎◌, inl, inr, ⊎_elim}
 use native.Mathlib.Omega.{arith}
 use borrow.Author.Tests.{eq-eqb, ne_eqb, le-leb, lt-ltb, lt-leb, le-ltb}
-use lib.Dec.{eqb, leb, ltb}
+use lib.Dec.{leb, ltb}
 use Rattle.index.proofs.laws.Range.{lt_or_le}
 use Rattle.index.proofs.laws.message.Halves.{differ}
 use Rattle.calendar.specs.Dates.{IsDay, day_number}
 use Rattle.calendar.specs.Terms.{anniversary, between, stands, IsTerm}
 use Rattle.calendar.proofs.laws.Dates.{in_range}
 use Rattle.calendar.proofs.laws.Terms.{later}
-use Rattle.appointments.specs.Appointment.{Appointment, list_size, appointment_at, stands_on, only_on}
-use Rattle.appointments.specs.Asking.{Differs, Another, IsFirst}
+use Rattle.appointments.specs.Appointment.{Appointment, appointment_at, stands_on, only_on}
+use Rattle.appointments.specs.Asking.{Differs, IsFirst}
 use Rattle.appointments.specs.work.Listed.{sooner}
 
 -- ---- the first day of which something holds

@@ -1,7 +1,7 @@
 -- Of one appointment that stands, the next change is its anniversary.
-use Prim.Native.Nat.{ℕ, ◌<◌, ◌≤◌}
+use Prim.Native.Nat.{ℕ}
 use mathlib.Core.Path.{◌≡◌, refl, sym, ap, subst}
-use mathlib.Core.Bool.{Bool, true, false, cond, ◌&&◌}
+use mathlib.Core.Bool.{Bool, true, false, cond}
 use mathlib.Core.List.{List, ◌∷◌}
 use mathlib.Core.Logic.{⊎_elim, inl, inr}
 use native.Mathlib.Omega.{arith}
@@ -13,7 +13,7 @@ use Rattle.index.proofs.laws.Tests.{both}
 use Rattle.calendar.specs.Dates.{day_number}
 use Rattle.calendar.specs.Terms.{anniversary, between, stands}
 use Rattle.appointments.specs.Appointment.{Appointment, appointment_length, list_size, appointment_at, appointment_needs, day_needs, stands_on}
-use Rattle.appointments.specs.Asking.{Stands, Differs, Another, IsFirst, NextChange}
+use Rattle.appointments.specs.Asking.{Stands, Differs, IsFirst, NextChange}
 use Rattle.appointments.proofs.laws.NextDay.{first_to}
 use Rattle.appointments.proofs.laws.Asked.{answer, next_day}
 

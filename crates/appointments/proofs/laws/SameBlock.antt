@@ -1,7 +1,7 @@
 -- M-105: a move ends as the same block with the appointments of the new day added, and going by any days ends the same.
 use Prim.Native.Nat.{ℕ}
 use mathlib.Core.Path.{◌≡◌, refl, sym, ◌∙◌}
-use mathlib.Core.List.{List, [], ◌∷◌}
+use mathlib.Core.List.{List, []}
 use native.Mathlib.Omega.{arith}
 use Rattle.index.specs.Block.{Good}
 use Rattle.index.specs.Message.{Half, Carried, changes}

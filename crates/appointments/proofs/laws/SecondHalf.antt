@@ -1,11 +1,10 @@
 -- M-105: demand 3's second half with moves mixed into the history.
-use Prim.Native.Nat.{ℕ, ◌+◌, ◌<◌}
+use Prim.Native.Nat.{ℕ}
 use mathlib.Core.Path.{◌≡◌, refl, sym, ap, ◌∙◌}
 use mathlib.Core.List.{List, [], ◌∷◌, ◌++◌}
 use mathlib.Core.Logic.◌⊎◌.{inl, inr}
 use native.Mathlib.Omega.{arith}
 use lib.ListN.{length}
-use Rattle.index.specs.declared.Kind.{Kind}
 use Rattle.index.specs.Block.{Sized, Good}
 use Rattle.index.specs.Calls.{Makes, make_needs}
 use Rattle.index.specs.History.{Labelled, Statement, History, moves_of}
@@ -80,7 +79,7 @@ record Same (b b' : List ℕ) : Type 0 where
   good : Good b → Good b'
   same_length : length b' ≡ length b
 
-told_same : {b b₁ : List ℕ} {s s₁ : List Statement} {m : Labelled} → History b s (m ∷ []) b₁ s₁ → Same b b₁
+told_same : {b b₁ : List ℕ} {s : List Statement} {m : Labelled} {s₁ : List Statement} → History b s (m ∷ []) b₁ s₁ → Same b b₁
 told_same (accepted {b = b} {b₁ = c} {m = m} h q nothing) =
     let e = balance b m.sent c h in
     record { good = e.good; same_length = e.same_length }

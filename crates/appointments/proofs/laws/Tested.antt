@@ -1,15 +1,15 @@
 -- The tests of a list, from those of each appointment; and what a list that passed them says of its changes.
 use Prim.Native.Nat.{ℕ, ◌+◌, ◌*◌, ◌/◌, ◌%◌, ◌<◌, ◌≤◌}
-use mathlib.Core.Path.{◌≡◌, refl, sym, ◌∙◌}
+use mathlib.Core.Path.{◌≡◌, refl}
 use mathlib.Core.Bool.{true}
-use mathlib.Core.List.{List, [], ◌∷◌, ◌++◌}
-use mathlib.Core.Logic.{◌↔◌, inl, inr, ⊎_elim}
+use mathlib.Core.List.{List, [], ◌∷◌}
+use mathlib.Core.Logic.{◌↔◌, inr, ⊎_elim}
 use native.Mathlib.Omega.{arith}
 use lib.ListN.{length, get_or}
 use Rattle.index.specs.declared.Kind.TheVariants.{Membership}
-use Rattle.index.specs.Letters.{right_count, may_have, all_rights}
+use Rattle.index.specs.Letters.{may_have}
 use Rattle.index.specs.Numbers.{Each}
-use Rattle.index.specs.Message.{Half, marker_mask, IsKind, Marked, Named, Masked, kind_of, packed_kind, packed_half, PackedWell, changes, packed_changes}
+use Rattle.index.specs.Message.{Half, marker_mask, IsKind, Marked, Named, Masked, packed_kind, packed_half, PackedWell, changes, packed_changes}
 use Rattle.index.proofs.laws.Firsts.{All}
 use Rattle.index.proofs.laws.block.MayHave.{above_fifteen}
 use Rattle.index.proofs.laws.message.Halves.{each_join, kind_one, masked_byte}

@@ -1,5 +1,5 @@
 -- An appointment stands on the one day only.
-use mathlib.Core.Bool.{true, false, not}
+use mathlib.Core.Bool.{not}
 use borrow.Author.Tests.{not-true, not-false}
 use Rattle.calendar.specs.Terms.{stands}
 use Rattle.calendar.proofs.laws.Terms.{no_span, is_span}

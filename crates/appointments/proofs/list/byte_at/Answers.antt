@@ -1,6 +1,4 @@
 -- A byte of an appointment.
-use Prim.Native.Nat.{◌+◌, ◌*◌}
-use mathlib.Core.Path.{refl}
 use native.Mathlib.Omega.{arith}
 use Rattle.appointments.specs.Appointment.{list_size}
 use Rattle.appointments.proofs.list.byte_at.Goals as goal
@@ -16,9 +14,3 @@ overflow_add-result c = omega (arith, c.requires.0, c.requires.1)
 pub bounds-list-i : goal.bounds-list-i
 unfolding list_size
 bounds-list-i c = omega (arith, c.requires.0, c.requires.1)
-
-pub overflow_cast-result : goal.overflow_cast-result
-overflow_cast-result c = omega (arith, c.type_inv.list (12 * c.args.i + c.args.j))
-
-pub returns : goal.returns
-returns c = (refl, omega (arith, c.type_inv.list (12 * c.args.i + c.args.j)))

@@ -1,6 +1,5 @@
 -- A move: the tests, then the changes that are gathered and carried out.
 use native.Mathlib.Omega.{arith}
-use lib.ListN.{length-take}
 use Rattle.index.proofs.laws.message.PairsListed.{both_listed}
 use Rattle.appointments.specs.Appointment.{standing_only}
 use Rattle.appointments.proofs.laws.Picked.{no_more}
@@ -23,17 +22,6 @@ pub gather-end-requires : goal.gather-end-requires
 gather-end-requires c =
     let i = in_range c.args.list.now c.args.old c.args.new c.if-number-ne0.false c.days_refused-number.ensures in
     (i, omega (arith, i.few, no_more c.args.list.now c.args.old c.args.new, c.gather-middle.ensures.0, c.gather-middle.ensures.1.same_length))
-
-pub slice_bounds-changes-end : goal.slice_bounds-changes-end
-slice_bounds-changes-end c =
-    let i = in_range c.args.list.now c.args.old c.args.new c.if-number-ne0.false c.days_refused-number.ensures in
-    omega (arith, i.few, no_more c.args.list.now c.args.old c.args.new, c.gather-middle.ensures.0, c.gather-end.ensures.0)
-
-pub slice_bounds-carry_out-end : goal.slice_bounds-carry_out-end
-slice_bounds-carry_out-end c =
-    let i = in_range c.args.list.now c.args.old c.args.new c.if-number-ne0.false c.days_refused-number.ensures in
-    simp length-take
-    (omega (arith, i.few, no_more c.args.list.now c.args.old c.args.new, c.gather-middle.ensures.0, c.gather-end.ensures.0, c.gather-middle.ensures.1.same_length, c.gather-end.ensures.1.same_length))
 
 pub returns : goal.returns
 returns c =

@@ -41,42 +41,45 @@ loop-i-preserved c =
     let of : Of c.args.block.now Permission c.loop-i.i = (c.loop-i.invariant.low, omega (arith, c.loop-i-test.true, c.part_of-part.ensures.last)) in
     let is_key = pair_key c.requires (of_records Permission _ _ of) c.pair_of-pair.ensures in
     let is_id = pair_id c.requires (of_records Permission _ _ of) c.pair_of-pair.ensures in
-    elim c.if-g-key-2.branch
-      [ then-g-key-2+else-fixed-request w ↦
+    elim c.if-g-key-2.branch [
+      | then-g-key-2+else-fixed-request w ↦
           rw (w.found-is, w.barred-is)
           (next_record c.loop-i.invariant of (w.if-g-key-2.true ∙ is_key) is_id w.grant-found.ensures w.bar-barred.ensures)
       | else-g-key-2 w ↦
           rw (w.found-is, w.barred-is)
-          (skip_record c.loop-i.invariant of (omega (arith, is_key, c.if-g-key.false, w.if-g-key-2.false))) ]
+          (skip_record c.loop-i.invariant of (omega (arith, is_key, c.if-g-key.false, w.if-g-key-2.false)))
+    ]
 
 pub search-preserved : goal.search-preserved
 search-preserved c =
     next_name c.loop-i.invariant
     (λ j later l e.
     absurd
-    (elim c.loop-i-test.branch
-      [ else-loop-i-test w ↦ omega (arith, later.1, w.loop-i-test.false, c.part_of-part.ensures.last)
+    (elim c.loop-i-test.branch [
+      | else-loop-i-test w ↦ omega (arith, later.1, w.loop-i-test.false, c.part_of-part.ensures.last)
       | then-loop-i-test+then-g-key w ↦
           let of : Of c.args.block.now Permission c.loop-i.i = (c.loop-i.invariant.low, omega (arith, w.loop-i-test.true, c.part_of-part.ensures.last)) in
           let is_key = pair_key c.requires (of_records Permission _ _ of) w.pair_of-pair.ensures in
-          omega (arith, is_key, w.if-g-key.true, keys_rise c.requires Permission c.loop-i.i j l of later) ]))
+          omega (arith, is_key, w.if-g-key.true, keys_rise c.requires Permission c.loop-i.i j l of later)
+    ]))
 
 -- Where the search ends: all names were seen, or no later record can change a right requested.
 pub overflow_sub-result : goal.overflow_sub-result
 overflow_sub-result c =
-    elim c.search-test.branch
-      [ else-search-test w ↦ omega (arith, w.barred-is, c.search.invariant.denied.mask.0)
+    elim c.search-test.branch [
+      | else-search-test w ↦ omega (arith, w.barred-is, c.search.invariant.denied.mask.0)
       | then-search-test+else-mark-eq0+then-loop-i-test+else-g-key+then-g-key-2+then-fixed-request w ↦
           let of : Of c.args.block.now Permission w.loop-i.i = (w.loop-i.invariant.low, omega (arith, w.loop-i-test.true, c.part_of-part.ensures.last)) in
           let is_key = pair_key c.requires (of_records Permission _ _ of) w.pair_of-pair.ensures in
           let is_id = pair_id c.requires (of_records Permission _ _ of) w.pair_of-pair.ensures in
           let s = next_record w.loop-i.invariant of (w.if-g-key-2.true ∙ is_key) is_id w.grant-found.ensures w.bar-barred.ensures in
-          omega (arith, w.barred-is, s.denied.mask.0) ]
+          omega (arith, w.barred-is, s.denied.mask.0)
+    ]
 
 pub returns : goal.returns
 returns c =
-    elim c.search-test.branch
-      [ else-search-test w ↦
+    elim c.search-test.branch [
+      | else-search-test w ↦
           rw (w.found-is, w.barred-is)
           (seen_all c.search.invariant c.requires (λ j of. omega (arith, (c.names_granted_on-names.ensures.within j of).1, w.search-test.false)))
       | then-search-test+else-mark-eq0+then-loop-i-test+else-g-key+then-g-key-2+then-fixed-request w ↦
@@ -84,4 +87,5 @@ returns c =
           let is_key = pair_key c.requires (of_records Permission _ _ of) w.pair_of-pair.ensures in
           let is_id = pair_id c.requires (of_records Permission _ _ of) w.pair_of-pair.ensures in
           let s = next_record w.loop-i.invariant of (w.if-g-key-2.true ∙ is_key) is_id w.grant-found.ensures w.bar-barred.ensures in
-          rw (w.found-is, w.barred-is) (fixed_all s c.requires (rw (← w.fixed.ensures) w.if-fixed-request.true)) ]
+          rw (w.found-is, w.barred-is) (fixed_all s c.requires (rw (← w.fixed.ensures) w.if-fixed-request.true))
+    ]

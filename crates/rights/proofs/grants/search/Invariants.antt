@@ -11,4 +11,3 @@ decreases-loop-i l = l.part.end - l.i
 
 abbrev pub invariant-search : goal.invariant-search
 invariant-search l = Searched l.profile l.block l.users l.objects l.request l.g l.i l.found l.barred
-

@@ -14,5 +14,8 @@ opened-rights-requires c = let pre = c.requires in record { sized = pre.sized; n
 
 pub returns : goal.returns
 returns c =
-    let args = c.args in record { limited = limited args.profile args.limit args.block.now args.user args.object args.request (mask_limited c.filter_of.ensures args.request)
-          c.granted-reach.ensures.mask c.opened-rights.ensures; count = c.granted-reach.ensures.count }
+    let args = c.args in record {
+      limited = limited args.profile args.limit args.block.now args.user args.object args.request (mask_limited c.filter_of.ensures args.request)
+          c.granted-reach.ensures.mask c.opened-rights.ensures;
+      count = c.granted-reach.ensures.count;
+    }

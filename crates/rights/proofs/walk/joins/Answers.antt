@@ -13,4 +13,4 @@ says a b c true false e f = (eqb-true a b e, eqb-false b c f)
 says a b c false y e f = λ p. eqb-false a b e p.0
 
 pub returns : goal.returns
-returns c = says c.args c.args.old c.args.new _ _ refl refl
+returns c = says c.args.before c.args.old c.args.new _ _ refl refl

@@ -1,5 +1,5 @@
 -- `walk::keep` meets its contract. The loop's invariant: the marks of the first j names are kept.
-use Prim.Native.Nat.{◌-◌, ◌≤◌}
+use Prim.Native.Nat.{◌≤◌}
 use mathlib.Core.Path.{◌≡◌}
 use lib.ListN.{length}
 use Rattle.index.specs.Block.{name_count}
@@ -8,6 +8,3 @@ use Rattle.rights.proofs.walk.keep.Given as goal
 
 abbrev pub invariant-loop-j : goal.invariant-loop-j
 invariant-loop-j l = (l.j ≤ l.len) × (length l.to ≡ name_count) × Kept l.names l.from l.initial.to l.j l.to
-
-abbrev pub decreases-loop-j : goal.decreases-loop-j
-decreases-loop-j l = l.len - l.j
