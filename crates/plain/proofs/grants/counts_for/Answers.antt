@@ -1,0 +1,11 @@
+-- `grants::counts_for` meets its contract: name 0, or one that a chain leads to.
+use mathlib.Core.Logic.{inl, inr, ⊎_elim}
+use Rattle.index.proofs.laws.Answer.{says_same}
+use Rattle.plain.proofs.grants.counts_for.Goals as goal
+
+pub returns-then-name-eq0 : goal.returns-then-name-eq0
+returns-then-name-eq0 c = inr c.if-name-eq0.true
+
+pub returns : goal.returns
+returns c =
+    says_same c.reached.result (λ m. inl m) (λ l. ⊎_elim (λ m. m) (λ e. absurd (c.if-name-eq0.false e)) l) c.reached.ensures
