@@ -10,7 +10,7 @@ use Rattle.rights.proofs.laws.walk.MarksAreChains.{first, first_mask}
 use Rattle.rights.proofs.laws.held.Sides.{start_front, start_settled, walked_side, walked_count}
 use Rattle.rights.proofs.walk.side.Goals as goal
 
--- With the start's they are marks.
+-- Cleared marks with the start's are marks.
 start_marks : (start : ℕ) → IsName start → Marks (first start)
 start_marks start h = record {
   names = length-set (replicate name_count 0) start all_rights ∙ length-replicate {A = ℕ} name_count 0;
