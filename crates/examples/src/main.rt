@@ -1,9 +1,11 @@
 // The examples of the rules that are run: each line says what was asked, and what came back.
 #![tactic(auto)]
+
 ghost use Rattle.std.specs.Prelude.{◌<◌};
 
 use index::{GREATEST, HEADER, RECORD};
 use rights::{Answer, Rights};
+use std::io;
 
 // The numbers of the two profiles.
 const ORDINARY: u64 = 0;
@@ -11,16 +13,13 @@ const ORDINARY: u64 = 0;
 const STRICT: u64 = 1;
 
 // One line: the words, and a number.
-fn say(words: &[u8], n: u64) -> bool {
-    io::write_all(1, words);
-    io::print_decimal(1, n);
-    io::write_all(1, b"\n")
+fn say(rt: &impl Print, words: &str, n: u64) -> io::Result<()> {
+    println!(rt; "{words}{n}")
 }
 
 // A line of words alone.
-fn tell(words: &[u8]) -> bool {
-    io::write_all(1, words);
-    io::write_all(1, b"\n")
+fn tell(rt: &impl Print, words: &str) -> io::Result<()> {
+    println!(rt; "{words}")
 }
 
 // A half: key and id, low byte first, and mask.
@@ -86,43 +85,45 @@ fn short(block: &[u8], user: u64, object: u64, request: u64) -> u64 {
 }
 
 // How often the first record of the block counts U, and whether 1 may update 9.
-fn planner(block: &[u8]) -> bool {
+fn planner(rt: &impl Print, block: &[u8]) -> io::Result<()> {
     say(
-        b"  appointments counted: ",
+        rt,
+        "  appointments counted: ",
         index::count_of(block, 0, 2) as u64,
-    );
-    say(b"  may update: ", short(block, 1, 9, 4))
+    )?;
+    say(rt, "  may update: ", short(block, 1, 9, 4))
 }
 
 // The mill's own case, in a block with room for one record.
-fn mill() -> bool {
+fn mill(rt: &impl Print) -> io::Result<()> {
     let mut block = [0u8; HEADER + RECORD];
     index::make(&mut block);
-    tell(b"two appointments give the planner, 1, the right to update the request, 9");
+    tell(
+        rt,
+        "two appointments give the planner, 1, the right to update the request, 9",
+    )?;
     give(&mut block, 2, 9, 1, 4);
     give(&mut block, 2, 9, 1, 4);
-    planner(&block);
-    tell(b"the first ends");
+    planner(rt, &block)?;
+    tell(rt, "the first ends")?;
     withdraw(&mut block, 2, 9, 1, 4);
-    planner(&block);
-    tell(b"the second ends");
+    planner(rt, &block)?;
+    tell(rt, "the second ends")?;
     withdraw(&mut block, 2, 9, 1, 4);
-    planner(&block)
+    planner(rt, &block)
 }
 
 // So many M records in a chain from 100 on, each with R.
 fn chain(block: &mut [u8], long: u16)
     requires { long < 900 }
 {
-    let mut n: u16 = 0;
-    while n < long {
+    for n in 0..long {
         give(block, 1, 100 + n, 101 + n, 2);
-        n += 1;
     }
 }
 
 // A chain of M records on the user's side and then on the object's: what it carries.
-fn chains(long: u16) -> bool
+fn chains(rt: &impl Print, long: u16) -> io::Result<()>
     requires { long < 900 }
 {
     let mut block = [0u8; HEADER + 50 * RECORD];
@@ -132,15 +133,15 @@ fn chains(long: u16) -> bool
     let last = 100 + long;
     give(&mut block, 2, 9, last, 2);
     give(&mut other, 2, last, 9, 2);
-    say(b"chain of ", long as u64);
-    say(b"  user's side: ", full(&block, 100, 9));
-    say(b"  object's side: ", full(&other, 9, 100));
-    say(b"  may read: ", short(&block, 100, 9, 2));
-    say(b"  memberships examined: ", examined(&block, 100, 9))
+    say(rt, "chain of ", long as u64)?;
+    say(rt, "  user's side: ", full(&block, 100, 9))?;
+    say(rt, "  object's side: ", full(&other, 9, 100))?;
+    say(rt, "  may read: ", short(&block, 100, 9, 2))?;
+    say(rt, "  memberships examined: ", examined(&block, 100, 9))
 }
 
 // A denial at the end of a chain of M records on the user's side and then on the object's: whether it bars in the strict profile.
-fn far_denials(long: u16) -> bool
+fn far_denials(rt: &impl Print, long: u16) -> io::Result<()>
     requires { long < 900 }
 {
     let mut block = [0u8; HEADER + 50 * RECORD];
@@ -152,116 +153,134 @@ fn far_denials(long: u16) -> bool
     give(&mut block, 2, 9, last, 32);
     give(&mut other, 2, 100, 9, 2);
     give(&mut other, 2, last, 9, 32);
-    say(b"denied at the end of a chain of ", long as u64);
-    say(b"  user's side: ", full(&block, 100, 9));
-    say(b"    strict: ", strict(&block, 100, 9));
-    say(b"  object's side: ", full(&other, 9, 100));
-    say(b"    strict: ", strict(&other, 9, 100))
+    say(rt, "denied at the end of a chain of ", long as u64)?;
+    say(rt, "  user's side: ", full(&block, 100, 9))?;
+    say(rt, "    strict: ", strict(&block, 100, 9))?;
+    say(rt, "  object's side: ", full(&other, 9, 100))?;
+    say(rt, "    strict: ", strict(&other, 9, 100))
 }
 
 // Blocks at the ends of the range of lengths.
-fn lengths() -> bool {
+fn lengths(rt: &impl Print) -> io::Result<()> {
     let mut short_block = [7u8; HEADER - 1];
     let mut long_block = [7u8; GREATEST + 1];
     let mut least = [7u8; HEADER];
     let mut greatest = [7u8; GREATEST];
-    say(b"make, 15 bytes: ", index::make(&mut short_block) as u64);
-    say(b"make, 49,169 bytes: ", index::make(&mut long_block) as u64);
+    say(rt, "make, 15 bytes: ", index::make(&mut short_block) as u64)?;
     say(
-        b"message, 49,169 bytes: ",
+        rt,
+        "make, 49,169 bytes: ",
+        index::make(&mut long_block) as u64,
+    )?;
+    say(
+        rt,
+        "message, 49,169 bytes: ",
         give(&mut long_block, 2, 9, 1, 2) as u64,
-    );
-    say(b"make, 16 bytes: ", index::make(&mut least) as u64);
-    say(b"  good: ", index::tested(&least) as u64);
-    say(b"  a record: ", give(&mut least, 2, 9, 1, 2) as u64);
-    say(b"make, 49,168 bytes: ", index::make(&mut greatest) as u64);
-    say(b"  a record: ", give(&mut greatest, 2, 9, 1, 2) as u64)
+    )?;
+    say(rt, "make, 16 bytes: ", index::make(&mut least) as u64)?;
+    say(rt, "  good: ", index::tested(&least) as u64)?;
+    say(rt, "  a record: ", give(&mut least, 2, 9, 1, 2) as u64)?;
+    say(
+        rt,
+        "make, 49,168 bytes: ",
+        index::make(&mut greatest) as u64,
+    )?;
+    say(rt, "  a record: ", give(&mut greatest, 2, 9, 1, 2) as u64)
 }
 
 // Name 0 on either side, and numbers that would narrow to it.
-fn zero() -> bool {
+fn zero(rt: &impl Print) -> io::Result<()> {
     let mut block = [0u8; HEADER + 10 * RECORD];
     index::make(&mut block);
     give(&mut block, 1, 1, 1, 2);
     give(&mut block, 2, 0, 1, 2);
     give(&mut block, 1, 0, 5, 15);
     give(&mut block, 2, 5, 1, 8);
-    say(b"name 0, any object: ", full(&block, 1, 700));
-    say(b"name 0, object 0, whose group is 5: ", full(&block, 1, 0));
-    say(b"user 65,537: ", full(&block, 65537, 9));
-    say(b"object 1,024: ", full(&block, 1, 1024));
-    say(b"request 0: ", short(&block, 1, 9, 0));
-    say(b"request 16: ", short(&block, 1, 9, 16))
+    say(rt, "name 0, any object: ", full(&block, 1, 700))?;
+    say(
+        rt,
+        "name 0, object 0, whose group is 5: ",
+        full(&block, 1, 0),
+    )?;
+    say(rt, "user 65,537: ", full(&block, 65537, 9))?;
+    say(rt, "object 1,024: ", full(&block, 1, 1024))?;
+    say(rt, "request 0: ", short(&block, 1, 9, 0))?;
+    say(rt, "request 16: ", short(&block, 1, 9, 16))
 }
 
 // Filters on an object and on its groups, one after the other: each binds.
-fn filters() -> bool {
+fn filters(rt: &impl Print) -> io::Result<()> {
     let mut block = [0u8; HEADER + 10 * RECORD];
     index::make(&mut block);
     give(&mut block, 2, 9, 1, 15);
     give(&mut block, 1, 9, 3, 1);
     give(&mut block, 1, 9, 12, 8);
-    say(b"no filter: ", full(&block, 1, 9));
+    say(rt, "no filter: ", full(&block, 1, 9))?;
     give(&mut block, 3, 3, 20, 14);
-    say(b"a filter on a group: ", full(&block, 1, 9));
+    say(rt, "a filter on a group: ", full(&block, 1, 9))?;
     give(&mut block, 3, 3, 21, 7);
-    say(b"a second on that group: ", full(&block, 1, 9));
+    say(rt, "a second on that group: ", full(&block, 1, 9))?;
     give(&mut block, 3, 12, 20, 11);
-    say(b"one on another group: ", full(&block, 1, 9));
+    say(rt, "one on another group: ", full(&block, 1, 9))?;
     give(&mut block, 3, 9, 20, 5);
-    say(b"one on the object: ", full(&block, 1, 9));
+    say(rt, "one on the object: ", full(&block, 1, 9))?;
     withdraw(&mut block, 3, 12, 20, 11);
-    say(b"without that on the other group: ", full(&block, 1, 9));
+    say(rt, "without that on the other group: ", full(&block, 1, 9))?;
     withdraw(&mut block, 1, 9, 3, 1);
-    say(b"out of the first group: ", full(&block, 1, 9));
+    say(rt, "out of the first group: ", full(&block, 1, 9))?;
     give(&mut block, 3, 0, 20, 8);
-    say(b"one on name 0: ", full(&block, 1, 9))
+    say(rt, "one on name 0: ", full(&block, 1, 9))
 }
 
 // The rights of 1 on 9 in both profiles, with the words before them.
-fn both(words: &[u8], block: &[u8]) -> bool {
-    io::write_all(1, words);
-    io::print_decimal(1, full(block, 1, 9));
-    say(b", strict: ", strict(block, 1, 9))
+fn both(rt: &impl Print, words: &str, block: &[u8]) -> io::Result<()> {
+    let held = full(block, 1, 9);
+    let held_strict = strict(block, 1, 9);
+    println!(rt; "{words}{held}, strict: {held_strict}")
 }
 
 // Denials, one after the other: 1 is in the group 2, and 9 in the group 7, each for R alone.
-fn denials() -> bool {
+fn denials(rt: &impl Print) -> io::Result<()> {
     let mut block = [0u8; HEADER + 10 * RECORD];
     index::make(&mut block);
     give(&mut block, 2, 9, 1, 15);
     give(&mut block, 1, 1, 2, 2);
     give(&mut block, 1, 9, 7, 2);
-    both(b"no denial: ", &block);
+    both(rt, "no denial: ", &block)?;
     give(&mut block, 2, 7, 1, 32);
-    both(b"read denied on the object's group: ", &block);
+    both(rt, "read denied on the object's group: ", &block)?;
     give(&mut block, 2, 7, 1, 66);
     both(
-        b"granted there too, and update denied, which it is not reached for: ",
+        rt,
+        "granted there too, and update denied, which it is not reached for: ",
         &block,
-    );
+    )?;
     withdraw(&mut block, 2, 7, 1, 32);
-    both(b"read no longer denied: ", &block);
+    both(rt, "read no longer denied: ", &block)?;
     give(&mut block, 2, 9, 1, 128);
-    both(b"delete denied in the record that grants: ", &block);
+    both(rt, "delete denied in the record that grants: ", &block)?;
     give(&mut block, 2, 0, 1, 16);
-    both(b"create denied on name 0: ", &block);
-    say(b"profile 2: ", held(&block, 1, 9, 2));
-    say(b"profile 4,294,967,297: ", held(&block, 1, 9, 4294967297));
-    say(b"user 1,024, profile 2: ", held(&block, 1024, 9, 2));
-    say(b"request 0, profile 2: ", short_in(&block, 1, 9, 0, 2))
+    both(rt, "create denied on name 0: ", &block)?;
+    say(rt, "profile 2: ", held(&block, 1, 9, 2))?;
+    say(
+        rt,
+        "profile 4,294,967,297: ",
+        held(&block, 1, 9, 4294967297),
+    )?;
+    say(rt, "user 1,024, profile 2: ", held(&block, 1024, 9, 2))?;
+    say(rt, "request 0, profile 2: ", short_in(&block, 1, 9, 0, 2))
 }
 
-fn main() {
-    mill();
-    chains(31);
-    chains(32);
-    chains(33);
-    chains(40);
-    far_denials(32);
-    far_denials(33);
-    lengths();
-    zero();
-    filters();
-    denials();
+fn main(rt: HostRuntime) -> io::Result<()> {
+    mill(&rt)?;
+    chains(&rt, 31)?;
+    chains(&rt, 32)?;
+    chains(&rt, 33)?;
+    chains(&rt, 40)?;
+    far_denials(&rt, 32)?;
+    far_denials(&rt, 33)?;
+    lengths(&rt)?;
+    zero(&rt)?;
+    filters(&rt)?;
+    denials(&rt)
 }

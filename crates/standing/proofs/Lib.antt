@@ -3,5 +3,6 @@ mod Lines
 mod Texts
 mod LinesBound
 mod StaysUsable
+mod Filling
 mod Feeding
 mod OnePrint

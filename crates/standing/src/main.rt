@@ -1,7 +1,9 @@
 // standing: reads messages of 12 bytes from standard input into an empty block, says which were refused, then prints
 // every set that is not empty.
 #![tactic(auto)]
-ghost use Rattle.std.specs.Prelude.{◌≡◌, true, ◌++◌, ℕ, ◌+◌, ◌≤◌, length};
+
+ghost use Rattle.std.specs.Prelude.{◌≡◌, ◌++◌, ℕ, ◌+◌, ◌<◌, ◌≤◌, length, take, IfOk, OnOk, OnErr};
+ghost use Rattle.std.specs.Io.KnownBytes.{Consumes, Appends, IsAtEnd};
 ghost use Rattle.index.specs.Block.{IsName, name_count, greatest_length};
 ghost use Rattle.index.specs.Message.{IsKind, kind_of};
 ghost use Rattle.index.specs.Text.{decimal, text_of, set_of};
@@ -9,10 +11,12 @@ ghost use Rattle.index.specs.work.Longest.{longest_text};
 ghost use Rattle.index.specs.work.Written.{Puts};
 ghost use Rattle.index.specs.Message.{message_length};
 ghost use Rattle.standing.specs.Printed.{kind_letter, refusal_line, set_line, set_lines, block_lines, line_with};
-ghost use Rattle.standing.specs.Promised.{Front, Taken, Came, Feeds, Ran};
+ghost use Rattle.standing.specs.Promised.{Front, Taken, Came, Broken, Feeds, Ran};
 ghost use Rattle.standing.specs.work.Room.{Usable, line_room, longest_sets};
 
 use index::{GREATEST, Kind, MESSAGE, MOST_LETTERS, NAMES, ROOM, Wrote};
+use std::io;
+use std::io::{Read, Write};
 
 // The kinds.
 const MEMBERSHIP: u64 = 1;
@@ -99,54 +103,76 @@ fn take_in(block: &mut [u8], message: &[u8], n: u64, line: &mut [u8]) -> usize
     put_refusal(line, n, r)
 }
 
-// What came of reading one message: it was whole, and there may be more; it was a short last piece; the input had ended;
-// or its line could not be written out.
+// ---- input
+
+// Reads until the buffer is full or the input ends, and says how many bytes stand at its front then.
+fn read_full<R: Read>(input: &mut R, buffer: &mut [u8]) -> io::Result<usize>
+    ensures within { IfOk result (λ got. got ≤ length buffer.new) }
+    ensures bytes { IfOk result (λ got. Consumes (R.remaining input.old) (R.remaining input.new) (take got buffer.new)) }
+    ensures end { IfOk result (λ got. got < length buffer.new → IsAtEnd (R.remaining input.new)) }
+{
+    let mut got = 0;
+    while got < buffer.len() {
+        let more = input.read(&mut buffer[got..])?;
+        if more == 0 {
+            return Ok(got);
+        }
+        got += more;
+    }
+    Ok(got)
+}
+
+// What came of reading one message: it was whole, and there may be more; it was a short last piece; or the input had
+// ended.
 #[derive(Clone, Copy)]
 enum Input {
     More,
     Last,
     Ended,
-    Broken,
 }
 
 // Reads message n, takes it in and writes its line out.
-fn feed_one(block: &mut [u8], n: u64, message: &mut [u8], line: &mut [u8]) -> Input
+fn feed_one<R: Read, W: Write>(
+    input: &mut R,
+    output: &mut W,
+    block: &mut [u8],
+    n: u64,
+    message: &mut [u8],
+    line: &mut [u8],
+) -> io::Result<Input>
     requires { Usable block.old × (length message.old ≡ message_length) × (line_room ≤ length line.old) }
-    ensures { Came block.old n result message.new line.new block.new }
+    ensures came { IfOk result (λ came. Came (R.remaining input.old, W.contents output.old)
+        (R.remaining input.new, W.contents output.new) block.old n came message.new line.new block.new) }
+    ensures broken { OnErr result (Broken block.old n message.new line.new block.new) }
 {
-    let got = io::read_full(libc::STDIN_FILENO, message);
+    let got = read_full(input, message)?;
     if got == 0 {
-        return Input::Ended;
+        return Ok(Input::Ended);
     }
     let long = take_in(block, &message[..got], n, line);
-    if !io::write_all(libc::STDOUT_FILENO, &line[..long]) {
-        return Input::Broken;
-    }
+    output.write_all(&line[..long])?;
     if got < MESSAGE {
-        return Input::Last;
+        return Ok(Input::Last);
     }
-    Input::More
+    Ok(Input::More)
 }
 
-// Reads messages to the end of the input, counted from 1; no where a line could not be written out.
-fn feed(block: &mut [u8]) -> bool
+// Reads messages to the end of the input, counted from 1.
+fn feed<R: Read, W: Write>(input: &mut R, output: &mut W, block: &mut [u8]) -> io::Result<()>
     requires { Usable block.old }
-    ensures { result ≡ true → Feeds block.old 1 block.new }
+    ensures { OnOk result (Feeds (R.remaining input.old, W.contents output.old)
+        (R.remaining input.new, W.contents output.new) block.old 1 block.new) }
 {
     let mut message = [0u8; MESSAGE];
     let mut line = [0u8; LINE];
-    let mut n: u64 = 1;
-    while n < LAST {
-        let input = feed_one(block, n, &mut message, &mut line);
-        match input {
+    for n in 1..LAST {
+        match feed_one(input, output, block, n, &mut message, &mut line)? {
             Input::More => {}
-            Input::Last => return true,
-            Input::Ended => return true,
-            Input::Broken => return false,
+            Input::Last => return Ok(()),
+            Input::Ended => return Ok(()),
         }
-        n += 1;
     }
-    true
+    Ok(())
 }
 
 // ---- sets
@@ -222,32 +248,44 @@ fn put_block(out: &mut [u8], block: &[u8], text: &mut [u8]) -> usize
     put_sets(out, permissions, block, FILTER, text)
 }
 
-// Writes every set out; no where that fails.
-fn show(block: &[u8], text: &mut [u8], out: &mut [u8]) -> bool
+// Writes every set out.
+fn show<W: Write>(output: &mut W, block: &[u8], text: &mut [u8], out: &mut [u8]) -> io::Result<()>
     requires { Usable block.now × (longest_text ≤ length text.old) × (longest_sets ≤ length out.old) }
-    ensures { (long : ℕ) × Front (block_lines block.now) out.new long }
+    ensures handed { (long : ℕ) × Front (block_lines block.now) out.new long }
+    ensures written { OnOk result (Appends (W.contents output.old) (W.contents output.new) (block_lines block.now)) }
 {
     let long = put_block(out, block, text);
-    io::write_all(libc::STDOUT_FILENO, &out[..long])
+    output.write_all(&out[..long])
 }
 
 // ---- the whole
 
-// Makes the block empty, feeds it and shows its sets; no where something could not be written out.
-fn run(block: &mut [u8], text: &mut [u8], out: &mut [u8]) -> bool
+// Makes the block empty, feeds it and shows its sets.
+fn run<R: Read, W: Write>(
+    input: &mut R,
+    output: &mut W,
+    block: &mut [u8],
+    text: &mut [u8],
+    out: &mut [u8],
+) -> io::Result<()>
     requires { (length block.old ≡ greatest_length) × (longest_text ≤ length text.old) × (longest_sets ≤ length out.old) }
-    ensures { result ≡ true → Ran block.new out.new }
+    ensures { OnOk result (Ran (R.remaining input.old, W.contents output.old)
+        (R.remaining input.new, W.contents output.new) block.new out.new) }
 {
     index::make(block);
-    if feed(block) {
-        return show(block, text, out);
-    }
-    false
+    feed(input, output, block)?;
+    show(output, block, text, out)
 }
 
-fn main() {
+fn main(rt: HostRuntime) -> io::Result<()> {
     let mut block = [0u8; GREATEST];
     let mut text = [0u8; TEXT];
     let mut out = [0u8; SETS];
-    run(&mut block, &mut text, &mut out);
+    run(
+        &mut rt.stdin(),
+        &mut rt.stdout(),
+        &mut block,
+        &mut text,
+        &mut out,
+    )
 }

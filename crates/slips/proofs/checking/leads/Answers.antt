@@ -34,7 +34,6 @@ returns c = record {
   few = c.requires.1.1.1.1;
   starts = c.if-names-start.false;
   linked = λ j l. c.loop-i.invariant.1 j (omega (arith, c.loop-i-test.false));
-
 }
 
 pub loop-i-init : goal.loop-i-init

@@ -1,5 +1,5 @@
 -- `finding::better` meets its contract: the best before, or the record.
-use Prim.Native.Nat.{◌+◌, ◌/◌}
+use Prim.Native.Nat.{◌+◌, ◌/◌, ◌%◌, ◌<◌}
 use mathlib.Core.Path.{◌≡◌}
 use native.Mathlib.Omega.{arith}
 use lib.ListN.{get_or}
@@ -29,11 +29,11 @@ pub overflow_add-steps : goal.overflow_add-steps
 overflow_add-steps c =
     let p = c.requires.sized.1 in
     let of = p.1.1.1.1 in
-    record {
-      fits =
-          omega
-          (arith, c.steps_to.ensures, p.1.1.0 _ (element-copy-out-steps c), object_short c.args.objects.now _ (steps-to-requires c c.steps_to.lifetimes) p.1.1.1.0);
-    }
+    let l = of_records Permission _ _ of in
+    let told = c.pair_of-pair.ensures in
+    let key : c.pair_of-pair.result % 65536 < 1024 = omega (arith, pair_key p.0 l told, key_name p.0 Permission of) in
+    let id : c.pair_of-pair.result / 65536 < 1024 = omega (arith, pair_id p.0 l told, id_name p.0 Permission of) in
+    record { fits = omega (arith, c.steps_to.ensures, p.1.1.0 _ id, object_short c.args.objects.now _ key p.1.1.1.0) }
 
 -- The steps are those between.
 steps_are : (c : goal.Then-steps-best) → get_or c.args.users.now (c.pair_of-pair.result / 65536) 0 + c.steps_to.result ≡ between c.args.block.now c.args.users.now c.args.objects.now c.args.i

@@ -22,5 +22,8 @@ loop-p-preserved c =
 pub returns : goal.returns
 returns c =
     let inv = c.loop-p.invariant in
-    let e : c.loop-p.p ≡ c.args.hi = omega (arith, c.loop-p-test.false, inv.0.1.0) in record { listed_2 = (inv.1.0, inv.0.1.1); by_index = λ start t.
-          subst (λ (p : ℕ). Trails c.args.block.now c.args.k start c.args.n c.args.lo c.args.hi p 0 c.loop-p.steps c.loop-p c.loop-p.order c.loop-p.len) e (inv.1.1 start t) }
+    let e : c.loop-p.p ≡ c.args.hi = omega (arith, c.loop-p-test.false, inv.0.1.0) in record {
+      listed_2 = (inv.1.0, inv.0.1.1);
+      by_index = λ start t.
+          subst (λ (p : ℕ). Trails c.args.block.now c.args.k start c.args.n c.args.lo c.args.hi p 0 c.loop-p.steps c.loop-p.before c.loop-p.order c.loop-p.len) e (inv.1.1 start t);
+    }

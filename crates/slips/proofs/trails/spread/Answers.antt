@@ -72,11 +72,17 @@ loop-i-preserved c =
 pub returns-after-loop-i : goal.returns-after-loop-i
 returns-after-loop-i c =
     let inv = c.loop-i.invariant in
-    let p = c.requires.sized in record { listed_2 = (inv.1.1.0, inv.0.1); by_index = λ start lo hi low high t.
-          to_last p.1.0 low high p.1.1.1.1.0 (sym inv.1.0) inv.0.0 (λ l _. omega (arith, c.loop-i-test.false, c.size_of-end.ensures)) (inv.1.1.1 start lo hi low high t) }
+    let p = c.requires.sized in record {
+      listed_2 = (inv.1.1.0, inv.0.1);
+      by_index = λ start lo hi low high t.
+          to_last p.1.0 low high p.1.1.1.1.0 (sym inv.1.0) inv.0.0 (λ l _. omega (arith, c.loop-i-test.false, c.size_of-end.ensures)) (inv.1.1.1 start lo hi low high t);
+    }
 
 pub returns-then-pair_of-x : goal.returns-then-pair_of-x
 returns-then-pair_of-x c =
     let inv = c.loop-i.invariant in
-    let p = c.requires.sized in record { listed_2 = (inv.1.1.0, inv.0.1); by_index = λ start lo hi low high t.
-          to_last p.1.0 low high p.1.1.1.1.0 (sym inv.1.0) inv.0.0 (λ l e. c.if-pair_of-x.true (key_is_2 c ∙ e)) (inv.1.1.1 start lo hi low high t) }
+    let p = c.requires.sized in record {
+      listed_2 = (inv.1.1.0, inv.0.1);
+      by_index = λ start lo hi low high t.
+          to_last p.1.0 low high p.1.1.1.1.0 (sym inv.1.0) inv.0.0 (λ l e. c.if-pair_of-x.true (key_is_2 c ∙ e)) (inv.1.1.1 start lo hi low high t);
+    }

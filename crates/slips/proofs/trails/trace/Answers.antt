@@ -30,7 +30,7 @@ bounds-names-n c = omega (arith, c.requires.1.1.0, c.requires.1.1.1)
 
 pub loop-n-init : goal.loop-n-init
 loop-n-init c =
-    let first = traced_last c.args.steps.now c.args.now c.args.to c.args.names.now c.requires.1.0 (omega (arith, c.requires.1.1.0, c.requires.1.1.1)) in
+    let first = traced_last c.args.steps.now c.args.before.now c.args.to c.args.names.now c.requires.1.0 (omega (arith, c.requires.1.1.0, c.requires.1.1.1)) in
     (omega arith, (first.ends, first))
 
 -- The name at place n.
@@ -72,4 +72,4 @@ shape_of-names c = c.loop-n.invariant.1.1.same_length ∙ length-set c.args.name
 pub returns : goal.returns
 returns c =
     let e : c.loop-n.n ≡ 0 = omega (arith, c.loop-n-test.false) in
-    (traced_all _ _ _ (subst (λ (n : ℕ). Traced c.args.steps.now c.args.now c.args.to n (set c.args.names.now (at c.args.steps.now c.args.to) c.args.to) c.loop-n.names) e c.loop-n.invariant.1.1), refl)
+    (traced_all _ _ _ (subst (λ (n : ℕ). Traced c.args.steps.now c.args.before.now c.args.to n (set c.args.names.now (at c.args.steps.now c.args.to) c.args.to) c.loop-n.names) e c.loop-n.invariant.1.1), refl)

@@ -25,7 +25,7 @@ round-len-requires c =
 pub loop-n-preserved : goal.loop-n-preserved
 loop-n-preserved c =
     let r = c.round-len.ensures in
-    ((omega (arith, c.loop-n-test.true), r.0.1), (r.0.0, next_round c.requires.sized.1.0 (r.1 c.args.start c.loop-n.invariant.1.1) (omega (arith, c.loop-n-test.true)) refl))
+    ((omega (arith, c.loop-n-test.true), r.listed_2.1), (r.listed_2.0, next_round c.requires.sized.1.0 (r.by_index c.args.start c.loop-n.invariant.1.1) (omega (arith, c.loop-n-test.true)) refl))
 
 pub returns-after-loop-n : goal.returns-after-loop-n
 returns-after-loop-n c =
