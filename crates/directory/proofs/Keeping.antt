@@ -1,11 +1,10 @@
 -- A call by a directory that changes the block: what it leaves of both.
 use Prim.Native.Nat.{ℕ}
 use mathlib.Core.Path.{◌≡◌, refl, sym, ap, ◌∙◌}
-use mathlib.Core.List.{List, [], ◌∷◌}
-use mathlib.Core.Logic.{inl, inr, ⊎_elim}
+use mathlib.Core.List.{List}
+use mathlib.Core.Logic.{inl, inr}
 use native.Mathlib.Decide.{ℕ_discrete}
 use native.Mathlib.Omega.{arith}
-use denote.Enum.Declared.{tag_of}
 use Rattle.index.specs.declared.Took.{Took}
 use Rattle.index.specs.declared.Took.TheVariants as took
 use Rattle.index.specs.Numbers.{First, Answers}
@@ -13,7 +12,6 @@ use Rattle.index.specs.Block.{Good}
 use Rattle.index.specs.Message.{kind_of}
 use Rattle.index.specs.Wide.{Sent}
 use Rattle.index.specs.Calls.{block_needs, set_needs, Sends, ReadsText, ReadsSet, ReadAnswers}
-use Rattle.index.specs.contracts.Took.{the_type}
 use Rattle.index.proofs.laws.Firsts.{first_passed}
 use Rattle.index.proofs.laws.message.StaysGood.{stays_good}
 use Rattle.index.proofs.laws.demands.Unchanged.{sent_unchanged, read_unchanged}

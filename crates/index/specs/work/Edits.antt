@@ -1,5 +1,5 @@
 -- For proofs only: what the functions on records and halves do.
-use Rattle.std.specs.Prelude.{ℕ, suc, ◌+◌, ◌*◌, ◌/◌, ◌%◌, ◌^◌, ◌<◌, ◌≤◌, ◌≡◌, Bool, true, false, cond, List, [], ◌∷◌, ◌++◌, ◌↔◌, eqb, length, get_or}
+use Rattle.std.specs.Prelude.{ℕ, suc, ◌+◌, ◌*◌, ◌/◌, ◌%◌, ◌^◌, ◌<◌, ◌≤◌, ◌≡◌, Bool, true, false, cond, List, ◌++◌, ◌↔◌, eqb, length, get_or}
 use Rattle.std.specs.Int.Bits.{bit_or}
 use Rattle.index.specs.declared.Kind.{Kind}
 use Rattle.index.specs.declared.block.places.Found.{Found}

@@ -1,7 +1,7 @@
 -- For proofs only: what the functions on the lists of a wide message and on its pairs do.
 use Rattle.std.specs.Prelude.{ℕ, ◌+◌, ◌*◌, ◌<◌, ◌≤◌, ◌≡◌, Bool, true, false, List, ◌++◌, map}
 use lib.ListN.{length}
-use Rattle.index.specs.Message.{Half, Change, present, packed_changes}
+use Rattle.index.specs.Message.{Half, present, packed_changes}
 use Rattle.index.specs.Wide.{list_count, wide_header, list_length, mask_in, list_offset, list_place, ListGood}
 use Rattle.index.specs.work.Edits.{change_of}
 

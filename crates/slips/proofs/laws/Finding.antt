@@ -12,7 +12,6 @@ use lib.Dec.{eqb}
 use Rattle.index.specs.declared.Kind.TheVariants.{Membership, Permission}
 use Rattle.index.specs.Letters.{right_count}
 use Rattle.index.specs.Block.{IsName, Of, key, id, NetAt, Good}
-use Rattle.index.specs.work.Places.{At}
 use Rattle.index.proofs.laws.block.Records.{of_records}
 use Rattle.rights.specs.Chain.{Chain}
 use Rattle.rights.specs.Chain.Chain.{here, through}

@@ -1,5 +1,5 @@
 -- `making::fill_part` meets its contract. The loop's invariant: the records passed are through, and the entries below x are written.
-use Prim.Native.Nat.{ℕ, ◌+◌, ◌-◌, ◌%◌, ◌<◌, ◌≤◌}
+use Prim.Native.Nat.{ℕ, ◌+◌, ◌%◌, ◌<◌, ◌≤◌}
 use mathlib.Core.Path.{◌≡◌, ◌∙◌}
 use native.Mathlib.Omega.{arith}
 use Rattle.index.specs.Block.{key, Of}

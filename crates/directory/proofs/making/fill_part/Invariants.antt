@@ -1,5 +1,5 @@
 -- `making::fill_part` meets its contract. The loop's invariant: the records passed are through, and the entries below x are written.
-use Prim.Native.Nat.{◌-◌, ◌≤◌}
+use Prim.Native.Nat.{◌≤◌}
 use Rattle.directory.proofs.Writing.{Through}
 use Rattle.directory.proofs.making.fill_part.Given as goal
 

@@ -1,5 +1,5 @@
 -- `making::put` meets its contract. The loop's invariant: the entries passed are written, and nothing else has changed.
-use Prim.Native.Nat.{◌-◌, ◌<◌}
+use Prim.Native.Nat.{◌<◌}
 use mathlib.Core.Path.{◌≡◌}
 use native.Mathlib.Omega.{arith}
 use lib.ListN.{length}

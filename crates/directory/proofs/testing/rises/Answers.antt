@@ -1,5 +1,5 @@
 -- `testing::rises` meets its contract. The loop's invariant: `fine` is right about the entries passed.
-use Prim.Native.Nat.{◌+◌, ◌-◌}
+use Prim.Native.Nat.{◌+◌}
 use mathlib.Core.Path.{◌≡◌}
 use native.Mathlib.Omega.{arith}
 use borrow.Author.Count.{below_none}

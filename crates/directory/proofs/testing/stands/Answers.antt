@@ -1,5 +1,5 @@
 -- `testing::stands` meets its contract. The loop's invariant: the records passed lie between their entries, if the block is good.
-use Prim.Native.Nat.{ℕ, ◌+◌, ◌-◌, ◌%◌, ◌≤◌}
+use Prim.Native.Nat.{ℕ, ◌+◌, ◌%◌, ◌≤◌}
 use mathlib.Core.Path.{◌≡◌}
 use native.Mathlib.Omega.{arith}
 use Rattle.index.specs.Block.{key, records, Good}

@@ -4,14 +4,14 @@ use mathlib.Core.Path.{◌≡◌, refl, sym, ap, subst, ◌∙◌}
 use mathlib.Core.List.{List}
 use mathlib.Core.Logic.{◌⊎◌, inl, inr, ⊎_elim}
 use native.Mathlib.Omega.{arith}
-use lib.ListN.{length, get_or}
+use lib.ListN.{get_or}
 use Rattle.index.specs.declared.Kind.{Kind}
 use Rattle.index.specs.declared.Kind.TheVariants.{Membership, Permission, Filter}
 use Rattle.index.specs.Letters.{letter_count}
 use Rattle.index.specs.Block.{header_length, number, size, from, records, Of, place, key, id, count_at, Good, count, record_length}
 use Rattle.index.specs.Message.{kind_number}
 use Rattle.index.specs.work.Places.{spot, At}
-use Rattle.index.specs.work.Checks.{Header, Record}
+use Rattle.index.specs.work.Checks.{Record}
 use Rattle.index.specs.work.Bytes.{Spliced, Fits}
 use Rattle.index.proofs.laws.Range.{lt_or_le}
 use Rattle.index.proofs.laws.block.ThreeKinds.{apart}

@@ -1,5 +1,5 @@
 -- A block is good where its bytes, its header, its records and its end are.
-use Prim.Native.Nat.{ℕ, ◌+◌, ◌*◌, ◌<◌}
+use Prim.Native.Nat.{ℕ, ◌+◌, ◌<◌}
 use mathlib.Core.List.{List}
 use lib.ListN.{get_or}
 use Rattle.index.specs.declared.Kind.{Kind}

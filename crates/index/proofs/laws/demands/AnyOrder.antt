@@ -6,7 +6,7 @@ use mathlib.Core.List.{List, [], ◌∷◌, Permᴰ}
 use lib.ListN.{length}
 use Rattle.index.specs.declared.Kind.{Kind}
 use Rattle.index.specs.Block.{Good, count}
-use Rattle.index.specs.Message.{Change, changes, taken, added, Changed, Carried, packed_changes}
+use Rattle.index.specs.Message.{Change, changes, taken, added, Carried, packed_changes}
 use Rattle.index.specs.Letters.{letter_count}
 use Rattle.index.specs.Wide.{Sent, previous_of, new_of}
 use Rattle.index.specs.Calls.{block_needs, Sends, list_needs, CarriesOut}

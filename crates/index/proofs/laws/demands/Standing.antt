@@ -2,7 +2,7 @@
 use Prim.Native.Nat.{ℕ, ◌+◌, ◌<◌}
 use native.Mathlib.Omega.{arith}
 use native.Mathlib.Decide.{ℕ_discrete}
-use mathlib.Core.Path.{◌≡◌, refl, sym, ◌∙◌, ap}
+use mathlib.Core.Path.{◌≡◌, refl, ap}
 use mathlib.Core.Bool.{Bool, cond, true, false}
 use mathlib.Core.List.{List, [], ◌∷◌, ◌++◌, map}
 use mathlib.Core.Logic.◌⊎◌.{inl, inr}
@@ -12,7 +12,7 @@ use Rattle.index.specs.declared.Kind.{Kind}
 use Rattle.index.specs.declared.Kind.TheVariants.{Membership, Permission, Filter}
 use Rattle.index.specs.Letters.{letter_count}
 use Rattle.index.specs.Block.{size, records, count_from, count}
-use Rattle.index.specs.Message.{changes, Half, Change, taken, added}
+use Rattle.index.specs.Message.{changes, Half, taken, added}
 use Rattle.index.specs.Message.Change.{add}
 use Rattle.index.specs.Numbers.{Each}
 use Rattle.index.specs.Calls.{Makes, make_needs}

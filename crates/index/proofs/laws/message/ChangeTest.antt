@@ -1,20 +1,19 @@
 -- A test of one change that computes: where it says yes, the second block is what the change makes of the first.
-use Prim.Native.Nat.{ℕ, ◌+◌, ◌/◌, ◌%◌, ◌^◌, ◌<◌, ◌≤◌}
-use mathlib.Core.Path.{◌≡◌, refl, sym, ap, subst, ◌∙◌}
-use mathlib.Core.Bool.{Bool, true, false, cond, ◌&&◌}
+use Prim.Native.Nat.{ℕ, ◌+◌, ◌<◌}
+use mathlib.Core.Path.{◌≡◌, subst}
+use mathlib.Core.Bool.{Bool, true, ◌&&◌}
 use mathlib.Core.List.{List}
-use mathlib.Core.Logic.{◌⊎◌, inl, inr, ⊎_elim}
+use mathlib.Core.Logic.{⊎_elim}
 use native.Mathlib.Decide.{ℕ_discrete}
 use native.Mathlib.Omega.{arith}
-use borrow.Author.Tests.{eqb-true, ne_eqb}
+use borrow.Author.Tests.{eqb-true}
 use lib.Dec.{eqb}
 use lib.ListN.{length}
 use Rattle.index.specs.declared.Kind.{Kind}
 use Rattle.index.specs.declared.Kind.TheVariants.{Membership, Permission, Filter}
 use Rattle.index.specs.Letters.{letter_count}
-use Rattle.index.specs.Block.{size, from, Of, key, id, count}
-use Rattle.index.specs.Message.{Half, Change, kind_number, moves, taken, added, Changed}
-use Rattle.index.specs.Message.Change.{take, add}
+use Rattle.index.specs.Block.{size, from, key, id, count}
+use Rattle.index.specs.Message.{Change, taken, added, Changed}
 use Rattle.index.specs.work.Places.{At}
 use Rattle.index.proofs.laws.Tests.{both, all, all_at}
 use Rattle.index.proofs.laws.block.Records.{where_is, count_none}

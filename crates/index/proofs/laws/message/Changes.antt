@@ -6,7 +6,6 @@ use mathlib.Core.Logic.{⊎_elim}
 use native.Mathlib.Omega.{arith}
 use lib.ListN.{get_or}
 use Rattle.index.specs.declared.Kind.{Kind}
-use Rattle.index.specs.declared.Kind.TheVariants.{Membership, Permission, Filter}
 use Rattle.index.specs.Letters.{letter_count}
 use Rattle.index.specs.Block.{name_count, from, size, records, Of, key, id, count_at, Good, count}
 use Rattle.index.specs.work.Bytes.{Spliced, Fits}

@@ -1,7 +1,7 @@
 -- The tests of a list of changes.
 use Prim.Native.Nat.{ℕ}
 use mathlib.Core.Path.{◌≡◌}
-use mathlib.Core.List.{List, [], ◌∷◌, ◌++◌}
+use mathlib.Core.List.{List, [], ◌∷◌}
 use native.Mathlib.Omega.{arith}
 use Rattle.index.specs.Block.{Sized}
 use Rattle.index.specs.Numbers.{Answers, Each}

@@ -1,6 +1,6 @@
 -- Changes one after the other, and the way back.
 use Prim.Native.Nat.{ℕ, suc, ◌+◌, ◌-◌, ◌/◌, ◌%◌, ◌<◌, ◌≤◌}
-use mathlib.Core.Path.{◌≡◌, refl, sym, ◌∙◌, ap, subst}
+use mathlib.Core.Path.{◌≡◌, refl, ◌∙◌, ap, subst}
 use mathlib.Core.List.{List, [], ◌∷◌}
 use mathlib.Core.Logic.{◌⊎◌, inl, inr, ⊎_elim}
 use native.Mathlib.Omega.{arith}
@@ -10,7 +10,7 @@ use lib.ListN.{length, drop, get_or}
 use lib.Seq.{drop-cons, drop-length}
 use Rattle.index.specs.declared.Kind.{Kind}
 use Rattle.index.specs.Letters.{letter_count}
-use Rattle.index.specs.Block.{header_length, record_length, count, records, room, Good}
+use Rattle.index.specs.Block.{count, records, room, Good}
 use Rattle.index.specs.Numbers.{Answers}
 use Rattle.index.specs.Message.{Half, Change, Changed, taken, added, own_count, change_needs, Carried, packed_kind, packed_half, packed_change, packed_changes}
 use Rattle.index.specs.Message.Change.{take, add}
@@ -19,7 +19,7 @@ use Rattle.index.specs.work.Edits.Went.{nothing, next}
 use Rattle.index.proofs.laws.block.Bytes.{count_small}
 use Rattle.index.proofs.laws.block.Canonical.{canonical}
 use Rattle.index.proofs.laws.block.MayHave.{bit_zero}
-use Rattle.index.proofs.laws.message.HalfLetters.{half_of, change_own}
+use Rattle.index.proofs.laws.message.HalfLetters.{change_own}
 use Rattle.index.proofs.laws.Firsts.{All, first_map, first_all, first_sure, first_passed, first_refused, refuses}
 use Rattle.index.proofs.laws.message.OneMessage.{changes_positive}
 use Rattle.index.proofs.laws.block.Records.{of_records, where_is, count_at_lem, count_none}

@@ -1,9 +1,7 @@
 -- What a reader answers: what was looked for, or a wrong piece, which is handed on.
 use Prim.Native.Nat.{ℕ}
 use mathlib.Core.Path.{◌≡◌, refl, ap, subst}
-use mathlib.Core.List.{List, [], ◌∷◌}
-use mathlib.Core.Logic.{⊎_elim}
-use native.Mathlib.Omega.{arith}
+use mathlib.Core.List.{List}
 use lib.ListN.{drop}
 use Rattle.index.specs.declared.text.reading.Cursor.{Cursor}
 use Rattle.index.specs.declared.text.reading.Piece.{Piece}

@@ -6,8 +6,7 @@ use mathlib.Core.Logic.{⊎_elim}
 use native.Mathlib.Omega.{arith}
 use lib.ListN.{length, get_or}
 use Rattle.index.specs.declared.Kind.{Kind}
-use Rattle.index.specs.declared.Kind.TheVariants.{Membership, Permission, Filter}
-use Rattle.index.specs.Block.{name_count, IsName, id, count_at, count_from, Of, Good, count}
+use Rattle.index.specs.Block.{name_count, IsName, id, count_at, count_from, Good, count}
 use Rattle.index.specs.Text.{Entry, set_from, IsEntry, IsSet, count_in, Replaced}
 use Rattle.index.specs.work.Places.{spot, At}
 use Rattle.index.specs.work.Checks.{Record}

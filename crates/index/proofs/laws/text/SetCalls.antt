@@ -1,12 +1,11 @@
 -- What the two calls on sets answer, case by case.
 use Prim.Native.Nat.{ℕ, ◌+◌, ◌<◌, ◌≤◌}
 use mathlib.Core.Path.{◌≡◌, refl, sym, ap, ◌∙◌, subst}
-use mathlib.Core.List.{List, [], ◌∷◌, ◌++◌}
-use mathlib.Core.Logic.{inl, inr, ⊎_elim}
+use mathlib.Core.List.{List, ◌++◌}
+use mathlib.Core.Logic.{inl, inr}
 use native.Mathlib.Omega.{arith}
 use lib.ListN.{length, drop}
 use lib.Seq.{sets, sets-eq}
-use denote.Enum.Declared.{tag_of}
 use Rattle.index.specs.declared.Kind.{Kind}
 use Rattle.index.specs.declared.Wrote.TheVariants as wrote
 use Rattle.index.specs.declared.Took.{Took}
@@ -17,7 +16,6 @@ use Rattle.index.specs.Message.{kind_of}
 use Rattle.index.specs.Text.{Entry, text_of, set_of, Writes, Replaced}
 use Rattle.index.specs.Calls.{block_needs, set_needs, write_needs, Written, WritesSet, WriteAnswers, ReadsText, ReadsSet, ReadAnswers}
 use Rattle.index.specs.work.Pieces.{Scanned}
-use Rattle.index.specs.contracts.Took.{the_type}
 use Rattle.index.proofs.laws.OneFirst.{first_cases}
 use Rattle.index.proofs.laws.Firsts.{All, all_hold, first_all, refuses, refused_first, passed_first}
 

@@ -1,6 +1,6 @@
 -- `filter::filter_of` meets its contract. The loop's invariant: what the object's own F records let through, narrowed by those of
 -- the groups of the M records before i.
-use Prim.Native.Nat.{◌-◌, ◌≤◌}
+use Prim.Native.Nat.{◌≤◌}
 use mathlib.Core.Path.{◌≡◌}
 use mathlib.Core.Logic.{◌⊎◌, inl, inr}
 use Rattle.index.specs.Letters.{Mask}

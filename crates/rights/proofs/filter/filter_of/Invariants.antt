@@ -1,6 +1,5 @@
 -- `filter::filter_of` meets its contract. The loop's invariant: what the object's own F records let through, narrowed by those of
 -- the groups of the M records before i.
-use Prim.Native.Nat.{◌-◌}
 use Rattle.index.specs.declared.Kind.TheVariants.{Membership}
 use Rattle.rights.specs.work.Lookup.{Lets, LetsBy}
 use Rattle.rights.proofs.laws.held.Sifting.{Sifted}

@@ -1,5 +1,4 @@
 -- `filter::narrowed` meets its contract. The loop's invariant: the mask, narrowed by the F records of the name before i.
-use Prim.Native.Nat.{◌-◌}
 use mathlib.Core.Logic.{inl}
 use Rattle.index.specs.declared.Kind.TheVariants.{Filter}
 use Rattle.index.proofs.laws.block.Masks.{mask_self, mask_map, mask_limited}

@@ -1,12 +1,10 @@
 -- `grants::search` meets its contract. The invariant of both loops: what was searched up to the name and the record at hand.
-use Rattle.std.proofs.Common.{ℕ, ◌≡◌, ◌-◌, ◌%◌, ◌/◌, ◌≤◌, ◌∙◌, arith, bit_and}
+use Rattle.std.proofs.Common.{◌∙◌, arith}
 use Rattle.index.specs.declared.Kind.TheVariants.{Permission}
-use Rattle.index.specs.Letters.{all_rights, In, Mask}
-use Rattle.index.specs.Block.{Of, key, id}
+use Rattle.index.specs.Block.{Of}
 use Rattle.index.proofs.laws.block.Records.{of_records}
 use Rattle.directory.proofs.Numbered.{id_name, keys_rise, pair_key, pair_id}
-use Rattle.rights.specs.work.Between.{GrantsIn}
-use Rattle.rights.proofs.laws.held.Granting.{Searched, searched_none, next_name, next_record, skip_record, seen_all, fixed_all}
+use Rattle.rights.proofs.laws.held.Granting.{searched_none, next_name, next_record, skip_record, seen_all, fixed_all}
 use Rattle.rights.proofs.grants.search.Goals as goal
 use Rattle.rights.proofs.grants.search.Goals.{then-g-key-2+else-fixed-request, else-g-key-2, else-loop-i-test, then-loop-i-test+then-g-key, else-search-test, then-search-test+else-mark-eq0+then-loop-i-test+else-g-key+then-g-key-2+then-fixed-request}
 

@@ -1,5 +1,4 @@
 -- `groups::in_no_group` meets its contract: none of the M records of the object is a membership.
-use Prim.Native.Nat.{◌-◌}
 use native.Mathlib.Omega.{arith}
 use Rattle.index.specs.Block.{id}
 use Rattle.index.proofs.laws.Answer.{yes_is, no_is}

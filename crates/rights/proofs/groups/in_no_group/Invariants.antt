@@ -1,5 +1,5 @@
 -- `groups::in_no_group` meets its contract: none of the M records of the object is a membership.
-use Prim.Native.Nat.{ℕ, ◌-◌, ◌<◌, ◌≤◌}
+use Prim.Native.Nat.{ℕ, ◌<◌, ◌≤◌}
 use Rattle.index.specs.Block.{key, id}
 use Rattle.rights.specs.Groups.{Member}
 use Rattle.rights.proofs.groups.in_no_group.Given as goal

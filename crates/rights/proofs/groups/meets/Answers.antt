@@ -1,16 +1,12 @@
 -- `groups::meets` meets its contract: one M record after the other.
-use Prim.Native.Nat.{ℕ, ◌-◌, ◌<◌}
-use mathlib.Core.List.{List}
 use native.Mathlib.Omega.{arith}
 use borrow.Author.Rules.{rules}
-use lib.ListN.{get_or}
 use Rattle.index.specs.Block.{key, id}
 use Rattle.index.proofs.laws.Answer.{yes_is, no_is}
 use Rattle.index.proofs.laws.Range.{from_more}
 use Rattle.rights.specs.Groups.{WithoutN, Closes}
 use Rattle.rights.specs.work.Marks.{Meets}
 use Rattle.rights.proofs.laws.held.Members.{member_where}
-use Rattle.rights.proofs.groups.meets.Invariants.{MeetsAt}
 use Rattle.rights.proofs.groups.meets.Goals as goal
 
 pub loop-i-init : goal.loop-i-init

@@ -14,8 +14,7 @@ use Rattle.index.proofs.laws.Range.{lt_or_le}
 use Rattle.index.proofs.laws.block.Masks.{in_and, in_zero, mask_map, mask_none, mask_either, mask_limited, mask_less}
 use Rattle.rights.specs.declared.Profile.{Profile}
 use Rattle.rights.specs.declared.Profile.TheVariants.{Ordinary, Strict}
-use Rattle.rights.specs.Held.{Net}
-use Rattle.rights.specs.work.Between.{Between, BarsAt, BarsBy, GrantsIn, fixed_in}
+use Rattle.rights.specs.work.Between.{Between, BarsAt, GrantsIn, fixed_in}
 use Rattle.rights.proofs.laws.ByNumber.{at_self, Told, told_net, told_bars}
 
 -- The rights requested that are in the marks of both the key and the id of record j.

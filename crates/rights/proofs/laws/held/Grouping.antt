@@ -3,7 +3,7 @@ use Prim.Native.Nat.{ℕ, suc, ◌-◌, ◌<◌}
 use mathlib.Core.Path.{◌≡◌, refl, sym, ◌∙◌}
 use mathlib.Core.Bool.{Bool, true, not}
 use mathlib.Core.List.{List}
-use mathlib.Core.Logic.{◌⊎◌, ◌↔◌, inl, inr, ⊎_elim}
+use mathlib.Core.Logic.{◌↔◌, inl, inr, ⊎_elim}
 use native.Mathlib.Omega.{arith}
 use borrow.Author.Tests.{not-true}
 use lib.ListN.{get_or, replicate, get_or-replicate}
@@ -13,7 +13,7 @@ use Rattle.index.specs.Block.{name_count, Good}
 use Rattle.index.specs.Calls.{CountsX}
 use Rattle.rights.specs.declared.walk.Carry.TheVariants as carry
 use Rattle.rights.specs.Chain.{Chain}
-use Rattle.rights.specs.Groups.{Member, WithoutN, Closes, Hers, Bound, InNoGroup, InHers, Open}
+use Rattle.rights.specs.Groups.{WithoutN, Closes, Hers, Bound, InNoGroup, InHers, Open}
 use Rattle.rights.specs.Groups.Hers.{ends}
 use Rattle.rights.specs.work.Marks.{Side, Meets}
 use Rattle.directory.proofs.Numbered.{has_record}

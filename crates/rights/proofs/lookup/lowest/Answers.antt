@@ -1,5 +1,5 @@
 -- `lookup::lowest` meets its contract. The loop's invariant: what is known of the records outside the window.
-use Prim.Native.Nat.{◌+◌, ◌-◌, ◌/◌, ◌≤◌}
+use Prim.Native.Nat.{◌+◌, ◌/◌, ◌≤◌}
 use native.Mathlib.Omega.{arith}
 use Rattle.index.specs.Block.{most_records, from, size, records}
 use Rattle.index.proofs.laws.block.Records.{few_records, gap_in}

@@ -1,6 +1,6 @@
 -- `lookup::lowest` meets its contract. The loop's invariant: what is known of the records outside the window.
-use Prim.Native.Nat.{◌+◌, ◌-◌, ◌≤◌}
-use Rattle.index.specs.Block.{most_records, from}
+use Prim.Native.Nat.{◌+◌, ◌≤◌}
+use Rattle.index.specs.Block.{most_records}
 use Rattle.rights.proofs.laws.walk.Looking.{Window}
 use Rattle.rights.proofs.lookup.lowest.Given as goal
 

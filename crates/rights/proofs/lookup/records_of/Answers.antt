@@ -1,5 +1,5 @@
 -- `lookup::records_of` meets its contract: by the directory; or on from the first. The loop's invariant: the records passed are the name's.
-use Prim.Native.Nat.{◌+◌, ◌-◌, ◌%◌}
+use Prim.Native.Nat.{◌+◌, ◌%◌}
 use mathlib.Core.Path.{◌≡◌, sym, ◌∙◌}
 use mathlib.Core.Logic.{inl, inr}
 use native.Mathlib.Omega.{arith}

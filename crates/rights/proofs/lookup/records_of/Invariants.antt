@@ -1,6 +1,5 @@
 -- `lookup::records_of` meets its contract: by the directory; or on from the first. The loop's invariant: the records passed are the name's.
 use Prim.Native.Nat.{◌-◌, ◌≤◌}
-use Rattle.index.specs.Block.{from}
 use Rattle.rights.proofs.laws.walk.Looking.{Own}
 use Rattle.rights.proofs.lookup.records_of.Given as goal
 

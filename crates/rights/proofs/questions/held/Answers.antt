@@ -3,7 +3,7 @@ use mathlib.Core.Path.{refl}
 use native.Mathlib.Omega.{arith}
 use Rattle.rights.specs.Profiles.{IsProfile, profile_of}
 use Rattle.rights.specs.Questions.{question_needs, Reports, unreported, Full, Asks}
-use Rattle.rights.proofs.laws.questions.Requiring.{positive, Asked, asked, refused, accepts}
+use Rattle.rights.proofs.laws.questions.Requiring.{positive, asked, refused, accepts}
 use Rattle.rights.proofs.questions.held.Goals as goal
 
 pub returns-then-number-ne0 : goal.returns-then-number-ne0

@@ -1,5 +1,4 @@
 -- `checking::leads` meets its contract. The loop's invariant: there is a link from each name before i to the next.
-use Prim.Native.Nat.{◌-◌}
 use native.Mathlib.Omega.{arith}
 use borrow.Author.Count.{below_none, below_more}
 use Rattle.index.proofs.laws.Answer.{yes_not, no_not}

@@ -1,5 +1,4 @@
 -- `finding::nearest` meets its contract. The loop's invariant: the best of the P records before i.
-use Prim.Native.Nat.{◌-◌}
 use native.Mathlib.Omega.{arith}
 use Rattle.index.specs.declared.Kind.TheVariants.{Permission}
 use Rattle.slips.proofs.laws.Parts.{in_part}

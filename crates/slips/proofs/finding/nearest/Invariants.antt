@@ -1,5 +1,5 @@
 -- `finding::nearest` meets its contract. The loop's invariant: the best of the P records before i.
-use Prim.Native.Nat.{◌-◌, ◌≤◌}
+use Prim.Native.Nat.{◌≤◌}
 use Rattle.slips.specs.work.Trails.{Nearest}
 use Rattle.slips.proofs.finding.nearest.Given as goal
 

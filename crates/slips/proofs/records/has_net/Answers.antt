@@ -1,5 +1,4 @@
 -- `records::has_net` meets its contract. The loop's invariant: no record of the part before i has the key and the id.
-use Prim.Native.Nat.{◌-◌}
 use native.Mathlib.Omega.{arith}
 use Rattle.index.specs.work.Places.{At}
 use Rattle.index.proofs.laws.Answer.{says_same}

@@ -1,5 +1,5 @@
 -- `records::has_net` meets its contract. The loop's invariant: no record of the part before i has the key and the id.
-use Prim.Native.Nat.{ℕ, ◌-◌, ◌<◌, ◌≤◌}
+use Prim.Native.Nat.{ℕ, ◌<◌, ◌≤◌}
 use mathlib.Core.Path.{◌≡◌}
 use Rattle.index.specs.Block.{key, id}
 use Rattle.slips.proofs.records.has_net.Given as goal

@@ -1,5 +1,5 @@
 -- `starts::note_starts` meets its contract. The loop's invariant: the records from number i on are noted.
-use Prim.Native.Nat.{◌≤◌, ◌-◌}
+use Prim.Native.Nat.{◌≤◌}
 use mathlib.Core.Path.{◌≡◌}
 use lib.ListN.{length}
 use Rattle.index.specs.declared.Kind.TheVariants.{Membership}

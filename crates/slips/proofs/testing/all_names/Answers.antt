@@ -1,5 +1,4 @@
 -- `testing::all_names` meets its contract: each number of the list is tested.
-use Prim.Native.Nat.{◌-◌}
 use native.Mathlib.Omega.{arith}
 use borrow.Author.Count.{below_none, below_more}
 use Rattle.index.specs.Block.{IsName}

@@ -1,5 +1,5 @@
 -- `testing::all_names` meets its contract: each number of the list is tested.
-use Prim.Native.Nat.{ℕ, ◌-◌, ◌<◌}
+use Prim.Native.Nat.{ℕ, ◌<◌}
 use lib.ListN.{get_or}
 use Rattle.index.specs.Block.{IsName}
 use Rattle.slips.proofs.testing.all_names.Given as goal

@@ -1,5 +1,5 @@
 -- `trails::round` meets its contract. The loop's invariant: the round is through with the names before place p.
-use Prim.Native.Nat.{ℕ, ◌-◌}
+use Prim.Native.Nat.{ℕ}
 use mathlib.Core.Path.{◌≡◌, subst}
 use native.Mathlib.Omega.{arith}
 use Rattle.slips.specs.work.Trails.{Trails}

@@ -1,5 +1,5 @@
 -- `trails::trace` meets its contract. The loop's invariant: the names from place n on stand there, and x is the one at n.
-use Prim.Native.Nat.{◌-◌, ◌≤◌}
+use Prim.Native.Nat.{◌≤◌}
 use mathlib.Core.Path.{◌≡◌}
 use lib.ListN.{get_or}
 use Rattle.slips.specs.work.Trails.{at, Traced}

@@ -1,5 +1,5 @@
 -- `trails::walk` meets its contract. The loop's invariant: round n may begin.
-use Prim.Native.Nat.{ℕ, ◌-◌}
+use Prim.Native.Nat.{ℕ}
 use mathlib.Core.Path.{refl}
 use native.Mathlib.Omega.{arith}
 use lib.ListN.{replicate, length-replicate}

@@ -1,6 +1,6 @@
 -- The records of a part are looked at one after the other, each against the one before it, and after the last what was joined
 -- of them.
-use Prim.Native.Nat.{◌-◌, ◌+◌}
+use Prim.Native.Nat.{◌+◌}
 use mathlib.Core.Path.{◌≡◌}
 use native.Mathlib.Omega.{arith}
 use borrow.Author.Rules.{rules}

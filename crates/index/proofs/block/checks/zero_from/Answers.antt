@@ -1,5 +1,4 @@
 -- The bytes from j on are zero where their `or` is.
-use Prim.Native.Nat.{◌-◌}
 use borrow.Author.Rules.{rules}
 use Rattle.index.proofs.laws.block.Checked.{zero_seen}
 use Rattle.index.proofs.laws.block.Seen.{seen_none, seen_more}

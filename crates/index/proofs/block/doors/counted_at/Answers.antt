@@ -1,7 +1,6 @@
 -- `doors::counted_at` meets its contract: one letter after the other is put in, or left out.
-use Prim.Native.Nat.{ℕ, suc, ◌+◌, ◌-◌, ◌<◌}
+use Prim.Native.Nat.{ℕ, suc, ◌+◌, ◌<◌}
 use mathlib.Core.Path.{◌≡◌, subst}
-use mathlib.Core.Logic.{⊎_elim}
 use native.Mathlib.Omega.{arith}
 use Rattle.index.specs.Letters.{right_count}
 use Rattle.index.specs.Block.{count_at}

@@ -1,5 +1,4 @@
 -- An M record counts X where the `or` of all their counts of X is above zero.
-use Prim.Native.Nat.{◌-◌}
 use native.Mathlib.Omega.{arith}
 use borrow.Author.Tests.{ltb-true, lt-ltb}
 use Rattle.index.proofs.laws.block.Seen.{some_none, some_more}

@@ -1,5 +1,5 @@
 -- `doors::net_at` meets its contract: four decisions, one after the other.
-use Rattle.std.proofs.Common.{ℕ, refl}
+use Rattle.std.proofs.Common.{refl}
 use Rattle.index.specs.Block.{NetAt}
 use Rattle.index.proofs.laws.block.Joining.{Joined, none, put_in, left_out, decided}
 use Rattle.index.proofs.block.doors.net_at.Goals as goal

@@ -1,5 +1,4 @@
 -- `index::block::letters::table_bytes` meets its contract. The loop's invariant: the first k bytes are those of the first k letters.
-use Prim.Native.Nat.{◌-◌}
 use mathlib.Core.Path.{refl}
 use native.Mathlib.Omega.{arith}
 use lib.ListN.{get_or, length-set}

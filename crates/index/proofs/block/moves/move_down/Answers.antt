@@ -1,5 +1,4 @@
 -- Bytes go down from the lowest on, each before it is written over.
-use Prim.Native.Nat.{◌-◌}
 use mathlib.Core.Path.{◌≡◌}
 use native.Mathlib.Omega.{arith}
 use borrow.Author.Rules.{rules}

@@ -1,5 +1,5 @@
 -- Two numbers as one are their four bytes.
-use Rattle.std.proofs.Common.{ℕ, ◌+◌, ◌≡◌, arith}
+use Rattle.std.proofs.Common.{◌+◌, ◌≡◌, arith}
 use Rattle.index.specs.Block.{number}
 use Rattle.index.proofs.block.numbers.pair_at.Goals as goal
 

@@ -1,6 +1,6 @@
 -- The record after those of one key: the search goes through them, one after the other.
-use Rattle.std.proofs.Common.{◌≡◌, ◌+◌, arith}
-use Rattle.index.specs.Block.{from, size, Of}
+use Rattle.std.proofs.Common.{arith}
+use Rattle.index.specs.Block.{Of}
 use Rattle.index.proofs.laws.block.Finding.{going_on, at_last, in_part, upper_half, lower_half}
 use Rattle.index.proofs.laws.block.Records.{of_records}
 use Rattle.index.proofs.block.places.end_of.Goals as goal

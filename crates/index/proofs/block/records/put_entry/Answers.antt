@@ -1,5 +1,4 @@
 -- `index::block::records::put_entry` meets its contract: key, id, and in the loop the counts.
-use Prim.Native.Nat.{◌-◌}
 use mathlib.Core.Path.{refl, ◌∙◌}
 use native.Mathlib.Omega.{arith}
 use borrow.Author.Rules.{rules}

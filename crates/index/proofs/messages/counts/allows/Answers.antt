@@ -7,7 +7,7 @@ use borrow.Author.Count.{below_none, below_more}
 use borrow.Author.Rules.{rules}
 use lib.Dec.{ltb}
 use Rattle.index.specs.Letters.{In}
-use Rattle.index.specs.Block.{greatest_count, count_at}
+use Rattle.index.specs.Block.{greatest_count}
 use Rattle.index.proofs.laws.Answer.{says_same, less_says}
 use Rattle.index.proofs.laws.block.Masks.{in_and}
 use Rattle.index.proofs.messages.counts.allows.Goals as goal

@@ -1,5 +1,4 @@
 -- `index::messages::counts::once` meets its contract. The loop's invariant: the first k counts are the mask's.
-use Prim.Native.Nat.{◌-◌}
 use mathlib.Core.Path.{refl}
 use native.Mathlib.Omega.{arith}
 use lib.ListN.{length-set}

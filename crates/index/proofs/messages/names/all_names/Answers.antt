@@ -1,5 +1,4 @@
 -- Each name of a list is tested.
-use Prim.Native.Nat.{◌-◌}
 use native.Mathlib.Omega.{arith}
 use borrow.Author.Count.{below_none, below_more}
 use Rattle.index.specs.Block.{IsName}

@@ -1,5 +1,4 @@
 -- Each name is compared with the next.
-use Prim.Native.Nat.{◌-◌}
 use native.Mathlib.Omega.{arith}
 use borrow.Author.Count.{below_none, below_more}
 use Rattle.index.proofs.laws.message.NameLists.{rising_steps, steps_rising}

@@ -1,5 +1,5 @@
 -- The pairs of one key, one after the other.
-use Prim.Native.Nat.{◌+◌, ◌-◌}
+use Prim.Native.Nat.{◌+◌}
 use mathlib.Core.Path.{◌≡◌}
 use native.Mathlib.Omega.{arith}
 use Rattle.index.specs.Message.{kind_of, packed_change}

@@ -1,5 +1,4 @@
 -- A half that is absent has its five bytes tested, one after the other.
-use Prim.Native.Nat.{◌-◌}
 use mathlib.Core.Path.{sym, ◌∙◌}
 use native.Mathlib.Omega.{arith}
 use borrow.Author.Count.{below_none, below_more}

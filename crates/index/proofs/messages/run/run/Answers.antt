@@ -1,5 +1,4 @@
 -- Going on, change by change, or all the way back.
-use Prim.Native.Nat.{◌-◌}
 use mathlib.Core.Path.{◌∙◌, refl}
 use native.Mathlib.Omega.{arith}
 use Rattle.index.specs.work.Edits.Went.{nothing}

@@ -1,5 +1,4 @@
 -- A wide message is well formed by its header, its length and its halves.
-use mathlib.Core.Bool.{true, false}
 use native.Mathlib.Omega.{arith}
 use Rattle.index.specs.work.Pairing.{InPlace, HalfFormed}
 use Rattle.index.proofs.laws.Answer.{yes_not, no_not, says_same}
