@@ -1,10 +1,7 @@
 -- `filters::is_in` meets its contract. The loop's invariant: no M record so far names the group for the object.
-use Prim.Native.Nat.{ℕ, ◌-◌, ◌<◌, ◌≤◌}
+use Prim.Native.Nat.{ℕ, ◌<◌, ◌≤◌}
 use Rattle.plain.specs.work.Steps.{NamesAt}
 use Rattle.plain.proofs.filters.is_in.Given as goal
 
 abbrev pub invariant-loop-i : goal.invariant-loop-i
 invariant-loop-i l = (j : ℕ) → 0 ≤ j → j < l.i → NamesAt l.block l.object l.group j → ⊥
-
-abbrev pub decreases-loop-i : goal.decreases-loop-i
-decreases-loop-i l = l.end - l.i

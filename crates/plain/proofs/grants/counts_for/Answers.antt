@@ -1,10 +1,7 @@
 -- `grants::counts_for` meets its contract: name 0, or one that a chain leads to.
-use mathlib.Core.Logic.{inl, inr, ⊎_elim}
+use mathlib.Core.Logic.{inl, ⊎_elim}
 use Rattle.index.proofs.laws.Answer.{says_same}
 use Rattle.plain.proofs.grants.counts_for.Goals as goal
-
-pub returns-then-name-eq0 : goal.returns-then-name-eq0
-returns-then-name-eq0 c = inr c.if-name-eq0.true
 
 pub returns : goal.returns
 returns c =
