@@ -30,6 +30,9 @@ module _ {b : List ℕ} (g : Good b) where
       let w = member_where g m in
       (w.0, omega (arith, w.1.of.1), (w.1.has_id, w.1.has_key, subst (Member b o) (sym w.1.has_id) m))
 
+  pub names_member : (o y i : ℕ) → NamesAt b o y i → Member b o y
+  names_member o y i n = subst (Member b o) n.0 n.2
+
   -- An F record that is looked at and lacks the right.
   pub lacks : (o k i : ℕ) → k < right_count → Of b Filter i → (NetAt b i k → ⊥) → Looked b o (key b i) → Passes b o k → ⊥
   unfolding Passes
