@@ -64,7 +64,7 @@ pub(crate) fn block_and_names(block: &[u8], user: u64, object: u64) -> u8
 }
 
 // 4 for a name, 5 for the request of a question: the first that is due, or 0.
-fn names_and_request(user: u64, object: u64, request: u64) -> u8
+fn name_refusal(user: u64, object: u64, request: u64) -> u8
     ensures { Answers (ask_needs user object request) result }
 {
     let number = names_refusal(user, object);
@@ -84,7 +84,7 @@ fn names_and_request(user: u64, object: u64, request: u64) -> u8
 fn refusal(user: u64, object: u64, request: u64, profile: u64) -> u8
     ensures { Answers (ask_needs user object request ++ profile_needs profile) result }
 {
-    let first = names_and_request(user, object, request);
+    let first = name_refusal(user, object, request);
     if first != 0 {
         return first;
     }
@@ -102,7 +102,7 @@ pub fn ask_refusal(block: &[u8], user: u64, object: u64, request: u64) -> u8
     if number != 0 {
         return number;
     }
-    names_and_request(user, object, request)
+    name_refusal(user, object, request)
 }
 
 // The rights, if the object is open to the user, or none. It is looked at only where there are any; where no record counts X, nobody is bound.

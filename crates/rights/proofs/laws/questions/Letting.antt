@@ -1,7 +1,8 @@
 -- What the filters and exclusive groups let through: one answer, and what it says to the calls that ask it first.
 use Prim.Native.Nat.{ℕ}
 use mathlib.Core.Path.{◌≡◌, refl, sym, ◌∙◌}
-use mathlib.Core.List.{List, ◌++◌}
+use mathlib.Core.List.{List, [], ◌∷◌, ◌++◌}
+use mathlib.Core.Logic.{inl, inr}
 use native.Mathlib.Omega.{arith}
 use Rattle.index.specs.Letters.{In, Mask}
 use Rattle.index.specs.Numbers.{First, Answers}
@@ -36,6 +37,15 @@ module _ (b : List ℕ) (u o : ℕ) where
   named_all h = record { sized = h.0; good = h.1.0; user = h.1.1.0.0; object = h.1.1.0.1 }
 
   -- ---- for the code
+
+  pub block_refused : (n : ℕ) → (n ≡ 0 → ⊥) → Answers (block_needs b) n → ThroughAnswers b u o (goal.Refused n)
+  unfolding ThroughAnswers LetsThrough through_needs
+  block_refused n some a =
+      (positive n some, refused_first refusal (block_needs b) ((4, IsName u × IsName o) ∷ []) (Lets b u o) n (positive n some) a)
+
+  pub name_refused : Sized b → Good b → (IsName u × IsName o → ⊥) → ThroughAnswers b u o (goal.Refused 4)
+  unfolding ThroughAnswers LetsThrough through_needs block_needs
+  name_refused sized good none = (omega arith, inr (sized, inr (good, inl (none, refl))))
 
   pub names_passed : {n : ℕ} → n ≡ 0 → Answers (through_needs b u o) n → Named b u o
   unfolding through_needs block_needs

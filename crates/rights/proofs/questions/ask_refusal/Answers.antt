@@ -15,4 +15,4 @@ unfolding block_needs
 returns c =
     let args = c.args in
     let all = passed (block_needs args.block.now) (omega arith) c.if-number-ne0.false c.tested-number.ensures in
-    answers_next (block_needs args.block.now) (ask_needs args.user args.object args.request) _ all c.names_and_request.ensures
+    answers_next (block_needs args.block.now) (ask_needs args.user args.object args.request) _ all c.name_refusal.ensures

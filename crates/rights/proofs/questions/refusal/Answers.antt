@@ -11,17 +11,17 @@ use Rattle.rights.proofs.questions.refusal.Goals as goal
 pub returns-then-first-ne0 : goal.returns-then-first-ne0
 returns-then-first-ne0 c =
     let args = c.args in
-    answers_first (ask_needs args.user args.object args.request) (profile_needs args.profile) c.if-first-ne0.true c.names_and_request-first.ensures
+    answers_first (ask_needs args.user args.object args.request) (profile_needs args.profile) c.if-first-ne0.true c.name_refusal-first.ensures
 
 -- The names and the request are as they should be.
 module _ (c : goal.Then-profile-gt-STRICT) where
   all : All (ask_needs c.args.user c.args.object c.args.request)
-  all = passed (ask_needs c.args.user c.args.object c.args.request) (omega arith) c.if-first-ne0.false c.names_and_request-first.ensures
+  all = passed (ask_needs c.args.user c.args.object c.args.request) (omega arith) c.if-first-ne0.false c.name_refusal-first.ensures
 
 -- The names and the request are as they should be.
 module _ (c : goal.Else-profile-gt-STRICT) where
   all_2 : All (ask_needs c.args.user c.args.object c.args.request)
-  all_2 = passed (ask_needs c.args.user c.args.object c.args.request) (omega arith) c.if-first-ne0.false c.names_and_request-first.ensures
+  all_2 = passed (ask_needs c.args.user c.args.object c.args.request) (omega arith) c.if-first-ne0.false c.name_refusal-first.ensures
 
 pub returns-then-profile-gt-STRICT : goal.returns-then-profile-gt-STRICT
 unfolding IsProfile

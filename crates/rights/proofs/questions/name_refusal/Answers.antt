@@ -1,4 +1,4 @@
--- `questions::names_and_request` meets its contract: the names, and then the request.
+-- `questions::name_refusal` meets its contract: the names, and then the request.
 use Prim.Native.Nat.{◌≤◌}
 use mathlib.Core.Path.{refl}
 use mathlib.Core.List.{[], ◌∷◌}
@@ -8,7 +8,7 @@ use Rattle.index.specs.Letters.{all_rights}
 use Rattle.index.specs.Block.{IsName}
 use Rattle.index.proofs.laws.Firsts.{passed, answers_first}
 use Rattle.rights.proofs.laws.questions.Requiring.{positive}
-use Rattle.rights.proofs.questions.names_and_request.Goals as goal
+use Rattle.rights.proofs.questions.name_refusal.Goals as goal
 
 pub returns-then-number-ne0 : goal.returns-then-number-ne0
 returns-then-number-ne0 c =
