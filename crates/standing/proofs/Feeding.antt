@@ -4,7 +4,7 @@ use native.Mathlib.Omega.{arith}
 use mathlib.Core.Path.{◌≡◌}
 use mathlib.Core.List.{List, [], ◌∷◌, ◌++◌}
 use lib.ListN.{length, take, drop, drop_of_length-le, length-append}
-use Rattle.std.proofs.Common.{append-nil}
+use Rattle.std.proofs.Common.{append-nil, inl, inr}
 use Rattle.std.specs.Io.KnownBytes.{IsAtEnd}
 use Rattle.std.proofs.KnownBytes.{Consumes-nil, Consumes-trans, Appends-nil, Appends-trans}
 use lib.Seq.{take_at, drop_at, take_all, length-take-le}
@@ -13,7 +13,7 @@ use Rattle.standing.specs.declared.Input.TheVariants as input
 use Rattle.index.specs.Message.{message_length}
 use Rattle.standing.specs.Printed.{refusal_line, Fed}
 use Rattle.standing.specs.Printed.Fed.{done, piece}
-use Rattle.standing.specs.Promised.{Taken, Streams, Passed, Came, last, Feeds}
+use Rattle.standing.specs.Promised.{Taken, Streams, Passed, Came, Broken, last, Feeds, LedTo}
 use Rattle.standing.specs.work.Room.{Usable}
 use Rattle.standing.proofs.StaysUsable.{still_usable}
 
@@ -61,13 +61,34 @@ feeds_last {s} {s'} {b} {n} {m = c ∷ m} {b' = b'} l h t p e =
       whole = λ k. e;
     }
 
+-- The same of the block alone.
+led_none : (b : List ℕ) (n : ℕ) → LedTo b n b
+led_none b n = record { input = []; lines = []; fed = done }
+
+led_more : {b : List ℕ} {n : ℕ} {m line : List ℕ} {long : ℕ} {b₁ b' : List ℕ} → length m ≡ message_length → Taken b n m line long b₁
+    → LedTo b₁ (n + 1) b' → LedTo b n b'
+led_more {m = []} e t f = absurd (omega arith)
+led_more {b} {n} {m = c ∷ m} {b₁ = b₁} {b' = b'} e t f =
+    let input = (c ∷ m) ++ f.input in
+    let q : Message b (take message_length input) (t.r, b₁) = rw (take_at (c ∷ m) f.input message_length e) t.message in
+    let r : Fed b₁ (n + 1) (drop message_length input) f.lines b' = rw (drop_at (c ∷ m) f.input message_length e) f.fed in
+    record { input = input; lines = refusal_line n t.r ++ f.lines; fed = piece t.r q r }
+
+led_last : {b : List ℕ} {n : ℕ} {m line : List ℕ} {long : ℕ} {b' : List ℕ} → 0 < length m → length m ≤ message_length → Taken b n m line long b' → LedTo b n b'
+led_last {m = []} l h t = absurd (omega arith)
+led_last {b} {n} {m = c ∷ m} {b' = b'} l h t =
+    let q : Message b (take message_length (c ∷ m)) (t.r, b') = rw (take_all message_length (c ∷ m) h) t.message in
+    let r : Fed b' (n + 1) (drop message_length (c ∷ m)) [] b' = rw (drop_of_length-le (c ∷ m) h) done in
+    record { input = c ∷ m; lines = refusal_line n t.r ++ []; fed = piece t.r q r }
+
 -- What holds in the loop: whatever feeds the rest ends the feeding of all.
 pub record Feeding (s₀ s : Streams) (b₀ b : List ℕ) (n : ℕ) : Type 0 where
   pub usable : Usable b
   pub joins : (s' : Streams) (b' : List ℕ) → Feeds s s' b n b' → Feeds s₀ s' b₀ 1 b'
+  pub leads : (b' : List ℕ) → LedTo b n b' → LedTo b₀ 1 b'
 
 pub feeding_first : {s : Streams} {b : List ℕ} → Usable b → Feeding s s b b 1
-feeding_first u = record { usable = u; joins = λ s' b' f. f }
+feeding_first u = record { usable = u; joins = λ s' b' f. f; leads = λ b' f. f }
 
 module _ {s₀ s : Streams} {b₀ b : List ℕ} {n : ℕ} (g : Feeding s₀ s b₀ b n) where
   pub feeding_over : last ≤ n → Feeds s₀ s b₀ 1 b
@@ -80,6 +101,7 @@ module _ {s₀ s : Streams} {b₀ b : List ℕ} {n : ℕ} (g : Feeding s₀ s b�
         record {
           usable = still_usable b m b' t.r t.message g.usable;
           joins = λ r d f. g.joins r d (feeds_more h e t p f);
+          leads = λ d f. g.leads d (led_more e t f);
         }
 
     pub feeding_last : length m ≡ message_length → Came s s' b n input.Last m line b' → Feeds s₀ s' b₀ 1 b'
@@ -92,3 +114,11 @@ module _ {s₀ s : Streams} {b₀ b : List ℕ} {n : ℕ} (g : Feeding s₀ s b�
     unfolding Came
     feeding_ended (e, p, a) =
         g.joins s' b' (record { input = []; lines = []; fed = rw e done; passed = p; whole = λ k. a })
+
+    -- A read or a write failed.
+    pub feeding_broken : length m ≡ message_length → Broken b n m line b' → LedTo b₀ 1 b'
+    unfolding Broken
+    feeding_broken e (inl same) = g.leads b' (rw same (led_none b n))
+    feeding_broken e (inr (got, long, l, h, t)) =
+        let k = length-take-le got m (omega arith) in
+        g.leads b' (led_last (omega arith) (omega arith) t)

@@ -1,7 +1,7 @@
 -- What the functions of the program promise: the block then, and what they hand on to be written out.
 use Rattle.std.specs.Prelude.{ℕ, ◌-◌, ◌*◌, ◌^◌, ◌<◌, ◌≤◌, ◌≡◌, ◌⊎◌, List, [], ◌++◌, length, take, Option}
 use Rattle.std.specs.Io.KnownBytes.{Consumes, Appends, IsAtEnd}
-use Rattle.index.specs.Calls.{Message}
+use Rattle.index.specs.Calls.{Makes, Message}
 use Rattle.standing.specs.declared.Input.{Input}
 use Rattle.standing.specs.declared.Input.TheVariants as input
 use Rattle.index.specs.Message.{message_length}
@@ -59,6 +59,18 @@ pub record Feeds (s s' : Streams) (b : List ℕ) (n : ℕ) (b' : List ℕ) : Typ
   pub fed : Fed b n input lines b'
   pub passed : Passed s s' input lines
   pub whole : length input < message_length * (last - n) → IsAtEnd s'.0
+
+-- What is known of the block where a read or a write failed: some pieces, from message n on, led from the block b to b'.
+pub record LedTo (b : List ℕ) (n : ℕ) (b' : List ℕ) : Type 0 where
+  pub input : List ℕ
+  pub lines : List ℕ
+  pub fed : Fed b n input lines b'
+
+-- The same of the whole program, which makes the block b empty first.
+pub record Halted (b b' : List ℕ) : Type 0 where
+  pub block : List ℕ
+  pub made : Makes b (0, block)
+  pub led : LedTo block 1 b'
 
 -- The whole program, which leaves the block b: for the bytes that were read, the lines of the refusals that were handed on,
 -- and then the lines of the sets of b, are all that is to be printed, and were written out. The latter stand at the front of

@@ -11,7 +11,7 @@ ghost use Rattle.index.specs.work.Longest.{longest_text};
 ghost use Rattle.index.specs.work.Written.{Puts};
 ghost use Rattle.index.specs.Message.{message_length};
 ghost use Rattle.standing.specs.Printed.{kind_letter, refusal_line, set_line, set_lines, block_lines, line_with};
-ghost use Rattle.standing.specs.Promised.{Front, Taken, Came, Broken, Feeds, Ran};
+ghost use Rattle.standing.specs.Promised.{Front, Taken, Came, Broken, Feeds, LedTo, Halted, Ran};
 ghost use Rattle.standing.specs.work.Room.{Usable, line_room, longest_sets};
 
 use index::{GREATEST, Kind, MESSAGE, MOST_LETTERS, NAMES, ROOM, Wrote};
@@ -160,8 +160,9 @@ fn feed_one<R: Read, W: Write>(
 // Reads messages to the end of the input, counted from 1.
 fn feed<R: Read, W: Write>(input: &mut R, output: &mut W, block: &mut [u8]) -> io::Result<()>
     requires { Usable block.old }
-    ensures { OnOk result (Feeds (R.remaining input.old, W.contents output.old)
+    ensures fed { OnOk result (Feeds (R.remaining input.old, W.contents output.old)
         (R.remaining input.new, W.contents output.new) block.old 1 block.new) }
+    ensures stopped { OnErr result (LedTo block.old 1 block.new) }
 {
     let mut message = [0u8; MESSAGE];
     let mut line = [0u8; LINE];
@@ -269,8 +270,9 @@ fn run<R: Read, W: Write>(
     out: &mut [u8],
 ) -> io::Result<()>
     requires { (length block.old ≡ greatest_length) × (longest_text ≤ length text.old) × (longest_sets ≤ length out.old) }
-    ensures { OnOk result (Ran (R.remaining input.old, W.contents output.old)
+    ensures ran { OnOk result (Ran (R.remaining input.old, W.contents output.old)
         (R.remaining input.new, W.contents output.new) block.new out.new) }
+    ensures stopped { OnErr result (Halted block.old block.new) }
 {
     index::make(block);
     feed(input, output, block)?;
