@@ -10,9 +10,6 @@ use Rattle.index.proofs.laws.Answer.{says_same, equal_says}
 use Rattle.slips.specs.Slip.{ZeroAlone}
 use Rattle.slips.proofs.checking.is_zero_alone.Goals as goal
 
-pub returns-then-names-ne1 : goal.returns-then-names-ne1
-returns-then-names-ne1 c = λ e. omega (arith, ap length e, c.if-names-ne1.true)
-
 zero : (l : List ℕ) → length l ≡ 1 → get_or l 0 0 ≡ 0 → ZeroAlone l
 zero [] e z = absurd (omega arith)
 zero (x ∷ []) e z = ap (λ (y : ℕ). y ∷ []) z
@@ -22,4 +19,4 @@ alone : (l : List ℕ) → length l ≡ 1 → Says (ZeroAlone l) (eqb (get_or l 
 alone l e = says_same (eqb (get_or l 0 0) 0) (zero l e) (ap (λ (l : List ℕ). get_or l 0 0)) (equal_says (get_or l 0 0) 0)
 
 pub returns : goal.returns
-returns c = alone c.args.names.now (omega (arith, c.if-names-ne1.false))
+returns c = alone c.args.names.now (omega arith)
