@@ -1,99 +1,89 @@
 -- What an answer of the libraries below stands for is what C gets.
-use Prim.Native.Nat.{ℕ}
+use Prim.Native.Nat.{ℕ, ◌<◌}
+use mathlib.Core.Path.{◌≡◌, refl}
 use mathlib.Core.List.{List}
-use mathlib.Core.Path.{refl}
 use native.Mathlib.Omega.{arith}
-use Rattle.index.specs.declared.Wrote.{Wrote}
-use Rattle.index.specs.declared.Wrote.TheVariants as wrote
-use Rattle.index.specs.declared.Took.{Took}
-use Rattle.index.specs.declared.Took.TheVariants as took
-use Rattle.index.specs.Calls.{WroteMeans, TookMeans}
-use Rattle.rights.specs.declared.Rights.{Rights}
-use Rattle.rights.specs.declared.Rights.TheVariants as rights
-use Rattle.rights.specs.declared.Answer.{Answer}
-use Rattle.rights.specs.declared.Answer.TheVariants as answer
-use Rattle.rights.specs.declared.Given.{Given}
-use Rattle.rights.specs.declared.Given.TheVariants as goal
-use Rattle.rights.specs.Questions.{RightsMean, AnswerMeans, GivenMeans}
-use Rattle.slips.specs.declared.Sought.{Sought}
-use Rattle.slips.specs.declared.Sought.TheVariants as sought
+use Rattle.std.specs.Prelude.{Option, Some, None, Result, Ok, Err}
+use Rattle.index.specs.declared.refusals.Refusal.{Refusal}
+use Rattle.index.specs.declared.refusals.ReadError.{ReadError}
+use Rattle.index.specs.declared.refusals.ReadError.TheVariants.{NotASet, Refused}
+use Rattle.index.specs.Numbers.{number, number_of, Means, ReadMeans}
+use Rattle.rights.specs.declared.grants.Reach.{Reach}
+use Rattle.rights.specs.Questions.{RightsMean}
+use Rattle.slips.specs.declared.Slip.{Slip}
 use Rattle.slips.specs.Calls.{SoughtMeans}
 use Rattle.calendar.specs.declared.Date.{Date}
-use Rattle.calendar.specs.declared.DayNumber.{DayNumber}
-use Rattle.calendar.specs.declared.DayNumber.TheVariants as numbered
-use Rattle.calendar.specs.declared.Dated.{Dated}
-use Rattle.calendar.specs.declared.Dated.TheVariants as dated
-use Rattle.calendar.specs.Calls.{no_date, DayAnswers, DateAnswers}
-use Rattle.appointments.specs.declared.Next.{Next}
-use Rattle.appointments.specs.declared.Next.TheVariants as next
-use Rattle.appointments.specs.declared.Stood.{Stood}
-use Rattle.appointments.specs.declared.Stood.TheVariants as stood
-use Rattle.appointments.specs.Asking.{Stands, NextChange, StandsAnswers, NextAnswers}
-use Rattle.anaqsiro.specs.Returned.{Parts, Returned, InParts, ChainParts, InChains, DateParts}
-use Rattle.anaqsiro.specs.work.Answered.{RightsAs, AnswerAs, GivenAs, WroteAs, TookAs, SoughtAs, DayAs, DateAs, NextAs, StoodAs}
+use Rattle.calendar.specs.Calls.{no_date, DateAnswers}
+use Rattle.appointments.specs.Asking.{NextChange, NextAnswers}
+use Rattle.anaqsiro.specs.Returned.{Packed, Parts, Returned, InParts, ChainParts, InChains, DateParts}
+use Rattle.anaqsiro.specs.work.Answered.{no_value, day_or_none, rights_value, chains_value, date_value}
+use Rattle.anaqsiro.proofs.Fits.{PartsFit, DateFits}
 
-pub rights_returned : (Outcome : ℕ × ℕ × ℕ × ℕ → Type 0) (a : Rights) {r : ℕ} → RightsMean Outcome a → RightsAs a r
-    → Returned (InParts Outcome) r
-rights_returned Outcome (rights.Held m i j) p (v, parts, packed) = (0, v, packed, (m, i, j, parts, p))
-rights_returned Outcome (rights.Refused n) p packed =
-    let none : Parts 0 0 0 0 = record { is = refl; rights_fit = omega arith; user_fits = omega arith } in
-    (n, 0, packed, (0, 0, 0, none, p.1))
+-- r is the answer's number and its value, packed.
+abbrev pub Gets : {A : Type 0} → (A → ℕ) → Result A Refusal → ℕ → Type 0
+Gets value a r = Means value 0 (λ o. Packed o.0 o.1 r) a
 
-pub answer_returned : (Outcome : ℕ × ℕ → Type 0) (a : Answer) {r : ℕ} → AnswerMeans Outcome a → AnswerAs a r
+-- An answer whose value is the outcome's.
+pub means_returned : {A : Type 0} (value : A → ℕ) (Outcome : ℕ × ℕ → Type 0) (a : Result A Refusal) {r : ℕ} → Means value 0 Outcome a → Gets value a r
     → Returned (λ n v. Outcome (n, v)) r
-answer_returned Outcome answer.Yes p packed = (0, 1, packed, p)
-answer_returned Outcome answer.No p packed = (0, 0, packed, p)
-answer_returned Outcome (answer.Refused n) p packed = (n, 0, packed, p.1)
+means_returned value Outcome (Ok a) p packed = (0, value a, packed, p)
+means_returned value Outcome (Err e) p packed = (number e, 0, packed, p)
 
-pub wrote_returned : (Outcome : ℕ → ℕ → Type 0) (a : Wrote) {r : ℕ} → WroteMeans Outcome a → WroteAs a r → Returned Outcome r
-wrote_returned Outcome (wrote.Text n) p packed = (0, n, packed, p)
-wrote_returned Outcome (wrote.Refused n) p packed = (n, 0, packed, p.1)
+-- An answer that is a number alone: the value is 0.
+pub number_returned : (P : ℕ → Type 0) (a : Result (Unit {0}) Refusal) {r : ℕ} → P (number_of a) → Gets no_value a r
+    → Returned (λ n v. (v ≡ 0) × P n) r
+number_returned P (Ok a) p packed = (0, 0, packed, (refl, p))
+number_returned P (Err e) p packed = (number e, 0, packed, (refl, p))
 
-pub took_returned : (Outcome : ℕ → ℕ → Type 0) (a : Took) {r : ℕ} → TookMeans Outcome a → TookAs a r → Returned Outcome r
-took_returned Outcome (took.Set n) p packed = (0, n, packed, p)
-took_returned Outcome (took.Wrong place) p packed = (9, place, packed, p)
-took_returned Outcome (took.Refused n) p packed = (n, 0, packed, p.2)
+-- The same of an outcome that has the value 0 in it.
+pub zero_returned : (P : ℕ → ℕ → Type 0) (a : Result (Unit {0}) Refusal) {r : ℕ} → P (number_of a) 0 → Gets no_value a r → Returned P r
+zero_returned P (Ok a) p packed = (0, 0, packed, p)
+zero_returned P (Err e) p packed = (number e, 0, packed, p)
 
--- ---- M-103
+pub read_returned : (Outcome : ℕ × ℕ → Type 0) (a : Result ℕ ReadError) {r : ℕ} → ReadMeans Outcome a → ReadMeans (λ o. Packed o.0 o.1 r) a
+    → Returned (λ n v. Outcome (n, v)) r
+read_returned Outcome (Ok n) p packed = (0, n, packed, p)
+read_returned Outcome (Err (NotASet place)) p packed = (9, place, packed, p)
+read_returned Outcome (Err (Refused e)) p packed = (number e, 0, packed, p)
+
+-- ---- values of several parts
+
+pub rights_returned : (Outcome : ℕ × ℕ × ℕ × ℕ → Type 0) (a : Result Reach Refusal) {r : ℕ} → PartsFit a → RightsMean Outcome a → Gets rights_value a r
+    → Returned (InParts Outcome) r
+rights_returned Outcome (Ok a) fit p packed =
+    let parts : Parts a.rights a.user a.object (rights_value a) = record { is = refl; rights_fit = fit.0; user_fits = fit.1.0 } in
+    (0, rights_value a, packed, (a.rights, a.user, a.object, parts, p))
+rights_returned Outcome (Err e) fit p packed =
+    let none : Parts 0 0 0 0 = record { is = refl; rights_fit = omega arith; user_fits = omega arith } in
+    (number e, 0, packed, (0, 0, 0, none, p))
+
+-- M-103
 
 no_names : ChainParts 0 0 0
 no_names = record { is = refl; user_fits = omega arith }
 
-pub sought_returned : (Outcome : ℕ → ℕ → ℕ → Type 0) (a : Sought) {r : ℕ} → SoughtMeans Outcome a → SoughtAs a r
-    → Returned (InChains Outcome) r
-sought_returned Outcome (sought.Slip n m) p (v, parts, packed) = (0, v, packed, (n, m, parts, p.1))
-sought_returned Outcome sought.None p packed = (0, 0, packed, (0, 0, no_names, p))
-sought_returned Outcome (sought.Refused n) p packed = (n, 0, packed, (0, 0, no_names, p.1))
+pub sought_returned : (Outcome : ℕ → ℕ → ℕ → Type 0) (a : Result (Option Slip) Refusal) {r : ℕ} → ((s : Slip) → a ≡ Ok (Some s) → s.users < 256)
+    → SoughtMeans Outcome a → Gets chains_value a r → Returned (InChains Outcome) r
+sought_returned Outcome (Ok (Some s)) small p packed =
+    (0, chains_value (Some s), packed, (s.users, s.objects, record { is = refl; user_fits = small s refl }, p.1))
+sought_returned Outcome (Ok None) small p packed = (0, 0, packed, (0, 0, no_names, p))
+sought_returned Outcome (Err e) small p packed = (number e, 0, packed, (0, 0, no_names, p))
 
--- ---- M-111
+-- M-105
 
-pub given_returned : (Outcome : ℕ × ℕ → Type 0) (a : Given) {r : ℕ} → GivenMeans Outcome a → GivenAs a r → Returned (λ n v. Outcome (n, v)) r
-given_returned Outcome (goal.Mask m) p packed = (0, m, packed, p)
-given_returned Outcome (goal.Refused n) p packed = (n, 0, packed, p.1)
-
--- ---- M-105
-
-pub day_returned : (Outcome : ℕ × ℕ → Type 0) (a : DayNumber) {r : ℕ} → DayAnswers Outcome a → DayAs a r → Returned (λ n v. Outcome (n, v)) r
-unfolding DayAnswers
-day_returned Outcome (numbered.Day n) p packed = (0, n, packed, p)
-day_returned Outcome (numbered.Refused n) p packed = (n, 0, packed, p.1)
-
-pub date_returned : (Outcome : ℕ × Date → Type 0) (a : Dated) {r : ℕ} → DateAnswers Outcome a → DateAs a r
+pub date_returned : (Outcome : ℕ × Date → Type 0) (a : Result Date Refusal) {r : ℕ} → DateFits a → DateAnswers Outcome a → Gets date_value a r
     → Returned (λ n v. (d : Date) × DateParts d v × Outcome (n, d)) r
 unfolding DateAnswers
-date_returned Outcome (dated.On d) p (v, parts, packed) = (0, v, packed, (d, parts, p))
-date_returned Outcome (dated.Refused n) p packed =
+date_returned Outcome (Ok d) fit p packed =
+    let parts : DateParts d (date_value d) = record { is = refl; day_fits = fit.0; month_fits = fit.1 } in
+    (0, date_value d, packed, (d, parts, p))
+date_returned Outcome (Err e) fit p packed =
     let none : DateParts no_date 0 = record { is = refl; day_fits = omega arith; month_fits = omega arith } in
-    (n, 0, packed, (no_date, none, p.1))
+    (number e, 0, packed, (no_date, none, p))
 
-pub next_returned : (l : List ℕ) (day : ℕ) (a : Next) {r : ℕ} → NextAnswers l day a → NextAs a r → Returned (λ n v. NextChange l day (n, v)) r
+pub next_returned : (l : List ℕ) (day : ℕ) (a : Result (Option ℕ) Refusal) {r : ℕ} → NextAnswers l day a → Gets day_or_none a r
+    → Returned (λ n v. NextChange l day (n, v)) r
 unfolding NextAnswers
-next_returned l day (next.On n) p packed = (0, n, packed, p.1)
-next_returned l day next.Never p packed = (0, 0, packed, p)
-next_returned l day (next.Refused n) p packed = (n, 0, packed, p.1)
-
-pub stood_returned : (l : List ℕ) (day : ℕ) (a : Stood) {r : ℕ} → StandsAnswers l day a → StoodAs a r → Returned (λ n v. Stands l day (n, v)) r
-unfolding StandsAnswers
-stood_returned l day stood.Yes p packed = (0, 1, packed, p)
-stood_returned l day stood.No p packed = (0, 0, packed, p)
-stood_returned l day (stood.Refused n) p packed = (n, 0, packed, p.1)
+next_returned l day (Ok (Some n)) p packed = (0, n, packed, p.1)
+next_returned l day (Ok None) p packed = (0, 0, packed, p)
+next_returned l day (Err e) p packed = (number e, 0, packed, p)

@@ -1,20 +1,8 @@
 // The C interface of the two engines whose chains are held to a limit.
 
 ghost use Rattle.anaqsiro.specs.Returned.{RightsToReturns, PlainReturns};
-ghost use Rattle.anaqsiro.specs.work.Answered.{GivenAs};
 
-use crate::packed;
-use rights::Given;
-
-// Rights alone: the value is their mask.
-fn of_given(given: Given) -> u64
-    ensures { GivenAs given result }
-{
-    match given {
-        Given::Mask(mask) => packed(0, mask as u64),
-        Given::Refused(number) => packed(number, 0),
-    }
-}
+use crate::answers::returned;
 
 // The rights with chains of at most `limit` records, by the main walk.
 #[unsafe(no_mangle)]
@@ -27,7 +15,7 @@ pub extern "C" fn anaqsiro_rights_to(
 ) -> u64
     ensures { RightsToReturns block.now user object request limit result }
 {
-    of_given(rights::rights_to(block, user, object, request, limit))
+    returned(rights::rights_to(block, user, object, request, limit))
 }
 
 // The same by the plain engine.
@@ -41,5 +29,5 @@ pub extern "C" fn anaqsiro_plain(
 ) -> u64
     ensures { PlainReturns block.now user object request limit result }
 {
-    of_given(plain::rights_within(block, user, object, request, limit))
+    returned(plain::rights_within(block, user, object, request, limit))
 }

@@ -1,11 +1,8 @@
 -- What a host asks besides, of which 02 has nothing: whether an appointment stands on a day, and when another set of a list does.
-use Rattle.std.specs.Prelude.{ℕ, ◌<◌, ◌≤◌, ◌≡◌, true, cond, List, ◌∷◌, ◌⊎◌, length}
-use Rattle.index.specs.Numbers.{First}
+use Rattle.std.specs.Prelude.{ℕ, ◌<◌, ◌≤◌, ◌≡◌, Bool, true, cond, List, ◌∷◌, ◌⊎◌, length, Option, Some, None, Result, Ok, Err}
+use Rattle.index.specs.declared.refusals.Refusal.{Refusal}
+use Rattle.index.specs.Numbers.{First, number, Means, yes_no}
 use Rattle.calendar.specs.Dates.{IsDay}
-use Rattle.appointments.specs.declared.Stood.{Stood}
-use Rattle.appointments.specs.declared.Stood.TheVariants as stood
-use Rattle.appointments.specs.declared.Next.{Next}
-use Rattle.appointments.specs.declared.Next.TheVariants as next
 use Rattle.appointments.specs.Appointment.{Appointment, appointment_length, list_size, appointment_at, day_needs, stands_on, only_on}
 
 -- stands: the number, and 1 for yes, 0 for no. The list is one appointment.
@@ -34,14 +31,13 @@ IsNext l day n = IsFirst (Another l day) day n
 unfoldable pub NextChange : List ℕ → ℕ → ℕ × ℕ → Type 0
 NextChange l day o = First (λ n. (n, 0)) (day_needs l day) (λ o. (o.0 ≡ 0) × IsNext l day o.1) o
 
--- ---- what each case of an answer stands for: the number, and its value, which are an outcome of the call
+-- ---- what the answers of the code stand for: the number, and its value, which are an outcome of the call
 
-unfoldable pub StandsAnswers : List ℕ → ℕ → Stood → Type 0
-StandsAnswers l day stood.Yes = Stands l day (0, 1)
-StandsAnswers l day stood.No = Stands l day (0, 0)
-StandsAnswers l day (stood.Refused n) = (0 < n) × Stands l day (n, 0)
+unfoldable pub StandsAnswers : List ℕ → ℕ → Result Bool Refusal → Type 0
+StandsAnswers l day r = Means yes_no 0 (Stands l day) r
 
-unfoldable pub NextAnswers : List ℕ → ℕ → Next → Type 0
-NextAnswers l day (next.On n) = (0 < n) × NextChange l day (0, n)
-NextAnswers l day next.Never = NextChange l day (0, 0)
-NextAnswers l day (next.Refused n) = (0 < n) × NextChange l day (n, 0)
+-- The next day, which is not 0, or 0 for none.
+unfoldable pub NextAnswers : List ℕ → ℕ → Result (Option ℕ) Refusal → Type 0
+NextAnswers l day (Ok (Some n)) = (0 < n) × NextChange l day (0, n)
+NextAnswers l day (Ok None) = NextChange l day (0, 0)
+NextAnswers l day (Err e) = NextChange l day (number e, 0)

@@ -2,70 +2,52 @@
 
 ghost use Rattle.std.specs.Prelude.{◌≡◌};
 ghost use Rattle.appointments.specs.Appointment.{InRange};
-ghost use Rattle.appointments.specs.Asking.{IsNext, StandsAnswers, NextAnswers};
-ghost use Rattle.appointments.specs.work.Listed.{sooner};
+ghost use Rattle.appointments.specs.Asking.{Another, StandsAnswers, NextAnswers};
+ghost use Rattle.appointments.specs.work.Listed.{earlier, FirstDay};
 
-use crate::days::{next_at, stands_at};
-use crate::list::count_in;
+use crate::APPOINTMENT;
+use crate::list::{count_in, entry_at};
 use crate::testing::day_refused;
-use crate::{APPOINTMENT, Next, Stood};
+use index::Refusal;
 
 // Whether the appointment stands on the day.
-pub fn stands(appointment: &[u8], day: u64) -> Stood
+pub fn stands(appointment: &[u8], day: u64) -> Result<bool, Refusal>
     ensures { StandsAnswers appointment.now day result }
 {
     if appointment.len() != APPOINTMENT {
-        return Stood::Refused(3);
+        return Err(Refusal::Form);
     }
-    let number = day_refused(appointment, day);
-    if number != 0 {
-        return Stood::Refused(number);
-    }
-    if stands_at(appointment, 0, day) {
-        return Stood::Yes;
-    }
-    Stood::No
+    day_refused(appointment, day)?;
+    Ok(entry_at(appointment, 0).stands_on(day))
 }
 
-// The earlier of two days, where 0 is none.
-fn sooner(a: u64, b: u64) -> u64
-    ensures { result ≡ sooner a b }
+// The earlier of two days, where there are two.
+fn earlier(a: Option<u64>, b: Option<u64>) -> Option<u64>
+    ensures { result ≡ earlier a b }
 {
-    if a == 0 {
-        return b;
+    match (a, b) {
+        (Some(a), Some(b)) => Some(a.min(b)),
+        (Some(a), None) => Some(a),
+        (None, b) => b,
     }
-    if b == 0 {
-        return a;
-    }
-    if a < b { a } else { b }
 }
 
-// The first day after the day on which another set of the list stands; 0 if there is none.
-fn next_in(list: &[u8], day: u64) -> u64
+// The first day after the day on which another set of the list stands.
+fn next_in(list: &[u8], day: u64) -> Option<u64>
     requires { InRange list.now }
-    ensures { IsNext list.now day result }
+    ensures { FirstDay (Another list.now day) day result }
 {
-    let count = count_in(list);
-    let mut next = 0;
-    let mut i = 0;
-    while i < count {
-        next = sooner(next, next_at(list, i, day));
-        i += 1;
+    let mut next = None;
+    for i in 0..count_in(list) {
+        next = earlier(next, entry_at(list, i).next_after(day));
     }
     next
 }
 
-// The next day on which another set of the list stands.
-pub fn next_change(list: &[u8], day: u64) -> Next
+// The next day on which another set of the list stands, or none.
+pub fn next_change(list: &[u8], day: u64) -> Result<Option<u64>, Refusal>
     ensures { NextAnswers list.now day result }
 {
-    let number = day_refused(list, day);
-    if number != 0 {
-        return Next::Refused(number);
-    }
-    let next = next_in(list, day);
-    if next == 0 {
-        return Next::Never;
-    }
-    Next::On(next)
+    day_refused(list, day)?;
+    Ok(next_in(list, day))
 }

@@ -15,19 +15,3 @@ pub const APPOINTMENT: usize = 12;
 
 // How many a list may have.
 pub const MOST: usize = 256;
-
-// Whether an appointment stands on a day, or the number of the refusal.
-#[derive(Clone, Copy)]
-pub enum Stood {
-    Yes,
-    No,
-    Refused(u8),
-}
-
-// The next day on which another set of a list stands, or none, or the number of the refusal.
-#[derive(Clone, Copy)]
-pub enum Next {
-    On(u64),
-    Never,
-    Refused(u8),
-}

@@ -1,13 +1,14 @@
 // The list of appointments: what its bytes say of one of them.
 
-ghost use Rattle.std.specs.Prelude.{◌≡◌, ◌+◌, ◌<◌};
+ghost use Rattle.std.specs.Prelude.{◌≡◌, ◌+◌, ◌<◌, length};
+ghost use Rattle.index.specs.Block.{number};
 ghost use Rattle.index.specs.Message.{packed_change};
 ghost use Rattle.index.specs.work.Edits.{change_of};
-ghost use Rattle.calendar.specs.Calls.{SpanOf, SpanAnswers};
-ghost use Rattle.appointments.specs.Appointment.{list_size, byte_of, number_of, appointment_at, appointment_length};
+ghost use Rattle.appointments.specs.Appointment.{list_size};
+ghost use Rattle.appointments.specs.work.Listed.{entry, appointment_of};
 
 use crate::APPOINTMENT;
-use calendar::{Date, Span, span_of};
+use calendar::Date;
 use index::pack;
 
 // Where the bytes of an appointment stand.
@@ -15,9 +16,9 @@ const KEY: usize = 0;
 
 const ID: usize = 2;
 
-pub(crate) const MASK: usize = 4;
+const MASK: usize = 4;
 
-pub(crate) const MARKER: usize = 5;
+const MARKER: usize = 5;
 
 const YEAR: usize = 6;
 
@@ -27,73 +28,68 @@ const DAY: usize = 9;
 
 const TERM: usize = 10;
 
-pub(crate) const ZERO: usize = 11;
+const ZERO: usize = 11;
 
 // The kind of a membership.
 const MEMBERSHIP: u8 = 1;
 
+// One appointment of a list, as its bytes say.
+#[derive(Clone, Copy)]
+pub(crate) struct Entry {
+    pub key: u16,
+    pub id: u16,
+    pub mask: u8,
+    pub marker: u8,
+    pub first: Date,
+    pub term: u8,
+    pub zero: u8,
+}
+
 // How many appointments the list has.
+#[tactic(auto, unfolding(crate::specs::Appointment::list_size))]
 pub(crate) fn count_in(list: &[u8]) -> usize
     ensures { result ≡ list_size list.now }
 {
     list.len() / APPOINTMENT
 }
 
-// Byte j of appointment i.
-pub(crate) fn byte_at(list: &[u8], i: usize, j: usize) -> u64
-    requires { (i < list_size list.now) × (j < appointment_length) }
-    ensures { (result ≡ byte_of list.now i j) × (result < 256) }
+// The bytes at a place and behind it as one number.
+#[tactic(auto, unfolding(index::specs::Block::number))]
+fn number_at(list: &[u8], at: usize) -> u16
+    requires { at + 1 < length list.now }
+    ensures { result ≡ number list.now at }
 {
-    list[APPOINTMENT * i + j] as u64
+    u16::from_le_bytes([list[at], list[at + 1]])
 }
 
-// Bytes j and j + 1 of appointment i as one number.
-pub(crate) fn number_at(list: &[u8], i: usize, j: usize) -> u64
-    requires { (i < list_size list.now) × (j + 1 < appointment_length) }
-    ensures { (result ≡ number_of list.now i j) × (result < 65536) }
-{
-    byte_at(list, i, j) + 256 * byte_at(list, i, j + 1)
-}
-
-// The key of appointment i, and its id.
-pub(crate) fn key_at(list: &[u8], i: usize) -> u64
+// Appointment i.
+#[tactic(auto, unfolding(crate::specs::Appointment::list_size, crate::specs::work::Listed::entry))]
+pub(crate) fn entry_at(list: &[u8], i: usize) -> Entry
     requires { i < list_size list.now }
-    ensures { (result ≡ (appointment_at list.now i).membership.key) × (result < 65536) }
+    ensures { result ≡ entry list.now i }
 {
-    number_at(list, i, KEY)
+    let at = APPOINTMENT * i;
+    Entry {
+        key: number_at(list, at + KEY),
+        id: number_at(list, at + ID),
+        mask: list[at + MASK],
+        marker: list[at + MARKER],
+        first: Date {
+            year: number_at(list, at + YEAR) as u64,
+            month: list[at + MONTH] as u64,
+            day: list[at + DAY] as u64,
+        },
+        term: list[at + TERM],
+        zero: list[at + ZERO],
+    }
 }
 
-pub(crate) fn id_at(list: &[u8], i: usize) -> u64
-    requires { i < list_size list.now }
-    ensures { (result ≡ (appointment_at list.now i).membership.id) × (result < 65536) }
-{
-    number_at(list, i, ID)
-}
-
-// Its membership as a change, to be taken away or added.
-pub(crate) fn change_at(list: &[u8], i: usize, adds: bool) -> u64
-    requires { i < list_size list.now }
-    ensures { packed_change result ≡ change_of adds (appointment_at list.now i).membership }
-{
-    let mask = byte_at(list, i, MASK) + 256 * byte_at(list, i, MARKER);
-    pack(
-        adds,
-        MEMBERSHIP,
-        key_at(list, i) as u16,
-        id_at(list, i) as u16,
-        mask as u16,
-    )
-}
-
-// Its first day, and the day of its anniversary.
-pub(crate) fn span_at(list: &[u8], i: usize) -> Span
-    requires { i < list_size list.now }
-    ensures { SpanAnswers (SpanOf (appointment_at list.now i).first (appointment_at list.now i).term) result }
-{
-    let first = Date {
-        year: number_at(list, i, YEAR),
-        month: byte_at(list, i, MONTH),
-        day: byte_at(list, i, DAY),
-    };
-    span_of(first, byte_at(list, i, TERM))
+impl Entry {
+    // Its membership as a change, to be taken away or added.
+    pub(crate) fn change(self, adds: bool) -> u64
+        ensures { packed_change result ≡ change_of adds (appointment_of self).membership }
+    {
+        let mask = self.mask as u16 + 256 * self.marker as u16;
+        pack(adds, MEMBERSHIP, self.key, self.id, mask)
+    }
 }

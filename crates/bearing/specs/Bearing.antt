@@ -1,13 +1,13 @@
 -- M-113, "What can't bear on my rights": the records that can, and the call that asks whether a record is one. All quotations are from there, but where
 -- another paper is named.
-use Rattle.std.specs.Prelude.{ℕ, ◌≡◌, List, [], ◌∷◌, ◌++◌, ◌⊎◌}
+use Rattle.std.specs.Prelude.{ℕ, ◌≡◌, List, [], ◌∷◌, ◌++◌, ◌⊎◌, Bool, Result}
 use Rattle.index.specs.declared.Kind.{Kind}
 use Rattle.index.specs.declared.Kind.TheVariants.{Membership, Permission, Filter}
 use Rattle.index.specs.Numbers.{First}
 use Rattle.index.specs.Block.{IsName}
 use Rattle.index.specs.Message.{IsKind, kind_of}
 use Rattle.index.specs.Calls.{block_needs}
-use Rattle.rights.specs.declared.Answer.{Answer}
+use Rattle.index.specs.declared.refusals.Refusal.{Refusal}
 use Rattle.rights.specs.Held.{Looked}
 use Rattle.rights.specs.Questions.{YesWhen, AnswerMeans}
 use Rattle.rights.specs.Near.{Near}
@@ -36,6 +36,6 @@ bears_needs b u o kind x y = block_needs b ++ record_needs u o kind x y
 unfoldable pub Bearing : List ℕ → ℕ → ℕ → ℕ → ℕ → ℕ → (ℕ × ℕ) → Type 0
 Bearing b u o kind x y a = First (λ n. (n, 0)) (bears_needs b u o kind x y) (YesWhen (Bears b u o (kind_of kind) x y)) a
 
--- What each case of an answer stands for.
-unfoldable pub AsksBearing : List ℕ → ℕ → ℕ → ℕ → ℕ → ℕ → Answer → Type 0
+-- What an answer of the code stands for.
+unfoldable pub AsksBearing : List ℕ → ℕ → ℕ → ℕ → ℕ → ℕ → Result Bool Refusal → Type 0
 AsksBearing b u o kind x y r = AnswerMeans (Bearing b u o kind x y) r

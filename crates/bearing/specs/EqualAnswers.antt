@@ -1,5 +1,5 @@
 -- M-113, "What can't bear on my rights": the theorem, over what the public functions promise, and what it says to her. All quotations are from there.
-use Rattle.std.specs.Prelude.{ℕ, ◌<◌, ◌≡◌, List, [], ◌∷◌, ◌++◌, ◌↔◌}
+use Rattle.std.specs.Prelude.{ℕ, ◌<◌, ◌≡◌, List, [], ◌∷◌, ◌++◌, ◌↔◌, Bool, false, Result, Ok}
 use Rattle.index.specs.declared.Kind.{Kind}
 use Rattle.index.specs.Letters.{letter_count}
 use Rattle.index.specs.Numbers.{Each}
@@ -8,9 +8,8 @@ use Rattle.index.specs.Message.{kind_number}
 use Rattle.index.specs.Wide.{Sent, previous_of, new_of}
 use Rattle.index.specs.Calls.{Sends}
 use Rattle.directory.specs.Directory.{Own}
-use Rattle.rights.specs.declared.Rights.{Rights}
-use Rattle.rights.specs.declared.Answer.{Answer}
-use Rattle.rights.specs.declared.Answer.TheVariants.{No}
+use Rattle.index.specs.declared.refusals.Refusal.{Refusal}
+use Rattle.rights.specs.declared.grants.Reach.{Reach}
 use Rattle.rights.specs.Questions.{Asks, AsksAll, AsksBy, AsksAllBy}
 use Rattle.bearing.specs.Bearing.{Bears, AsksBearing}
 
@@ -39,8 +38,8 @@ AgreeBack = (b b' : List ℕ) (u o : ℕ) → Agree b b' u o → Agree b' b u o
 abbrev pub AnswersEqual : List ℕ → List ℕ → ℕ → ℕ → ℕ → Type 0
 AnswersEqual b b' u o profile =
     (request : ℕ)
-    → ((r r' : Rights) → Asks b u o request profile r → Asks b' u o request profile r' → r ≡ r')
-    × ((r r' : Answer) → AsksAll b u o request profile r → AsksAll b' u o request profile r' → r ≡ r')
+    → ((r r' : Result Reach Refusal) → Asks b u o request profile r → Asks b' u o request profile r' → r ≡ r')
+    × ((r r' : Result Bool Refusal) → AsksAll b u o request profile r → AsksAll b' u o request profile r' → r ≡ r')
 
 -- "For one user, object and profile, prove that two good blocks give equal answers to both questions, M-109's counts included, if they agree on these".
 -- They may have any two lengths that blocks may have.
@@ -52,8 +51,8 @@ EqualAnswers =
 abbrev pub AnswersEqualBy : List ℕ → List ℕ → List ℕ → List ℕ → ℕ → ℕ → ℕ → Type 0
 AnswersEqualBy b d b' d' u o profile =
     (request : ℕ)
-    → ((r r' : Rights) → AsksBy b d u o request profile r → AsksBy b' d' u o request profile r' → r ≡ r')
-    × ((r r' : Answer) → AsksAllBy b d u o request profile r → AsksAllBy b' d' u o request profile r' → r ≡ r')
+    → ((r r' : Result Reach Refusal) → AsksBy b d u o request profile r → AsksBy b' d' u o request profile r' → r ≡ r')
+    × ((r r' : Result Bool Refusal) → AsksAllBy b d u o request profile r → AsksAllBy b' d' u o request profile r' → r ≡ r')
 
 abbrev pub EqualAnswersBy : Type 0
 EqualAnswersBy =
@@ -69,7 +68,7 @@ NoAnswerMoves b b' u o =
 
 -- Of the record of the kind with the key x and the id y `bears` promises the answer no.
 abbrev pub SaysNo : List ℕ → ℕ → ℕ → Kind → ℕ → ℕ → Type 0
-SaysNo b u o kind x y = AsksBearing b u o (kind_number kind) x y No
+SaysNo b u o kind x y = AsksBearing b u o (kind_number kind) x y (Ok false)
 
 -- A message, plain or wide, about records that do not bear: of the record of each of its halves the call says no.
 abbrev pub Elsewhere : List ℕ → ℕ → ℕ → Sent → Type 0
@@ -87,7 +86,7 @@ pub data Sending : List ℕ → List Sent → List ℕ → Type 0 where
 
 -- What `bears` promises to answer is the same of the two blocks, for every record.
 abbrev pub BearingEqual : List ℕ → List ℕ → ℕ → ℕ → Type 0
-BearingEqual b b' u o = (kind x y : ℕ) (r r' : Answer) → AsksBearing b u o kind x y r → AsksBearing b' u o kind x y r' → r ≡ r'
+BearingEqual b b' u o = (kind x y : ℕ) (r r' : Result Bool Refusal) → AsksBearing b u o kind x y r → AsksBearing b' u o kind x y r' → r ≡ r'
 
 -- A whole list can be asked about beforehand: where the call says no of all its messages to the block as it stands before the first, they change no
 -- answer of hers, nor which records bear.

@@ -1,15 +1,15 @@
 // Whether a record bears on the rights of a user on an object.
 
-ghost use Rattle.std.specs.Prelude.{◌≡◌, ◌⊎◌};
-ghost use Rattle.index.specs.Numbers.{Answers};
+ghost use Rattle.std.specs.Prelude.{◌≡◌, ◌⊎◌, IfOk};
+ghost use Rattle.index.specs.Numbers.{number_of, Answers};
+ghost use Rattle.index.specs.Message.{kind_of};
 ghost use Rattle.index.specs.Block.{Sized, Good, IsName};
 ghost use Rattle.rights.specs.Held.{Looked};
 ghost use Rattle.rights.specs.Near.{Near};
-ghost use Rattle.bearing.specs.Bearing.{Bears, record_needs, bears_needs, AsksBearing};
+ghost use Rattle.bearing.specs.Bearing.{Bears, record_needs, AsksBearing};
 ghost use Rattle.bearing.specs.work.Telling.{Tells};
 
-use index::Kind;
-use rights::Answer;
+use index::{Kind, Refusal};
 
 // The greatest name.
 const LAST_NAME: u64 = index::GREATEST_NAME as u64;
@@ -23,104 +23,116 @@ const BEFORE_LAST: u64 = LIMIT - 1;
 // The groups that the M records of an object name are reached by one record, and the object itself by none.
 const OWN_GROUPS: u64 = 1;
 
-// 3 for a kind that is none, 4 for a name above the greatest: the first that is due, or 0.
-fn record_refusal(user: u64, object: u64, kind: u64, key: u64, id: u64) -> u8
-    ensures { Answers (record_needs user object kind key id) result }
+// The kind of a record, which has to be one, and whose names are none above the greatest.
+fn record_kind(user: u64, object: u64, kind: u64, key: u64, id: u64) -> Result<Kind, Refusal>
+    ensures number { Answers (record_needs user object kind key id) (number_of result) }
+    ensures same { IfOk result (λ k. k ≡ kind_of kind) }
 {
-    if kind < 1 {
-        return 3;
+    let kind = Kind::try_from(kind)?;
+    if user > LAST_NAME || object > LAST_NAME || key > LAST_NAME || id > LAST_NAME {
+        return Err(Refusal::Name);
     }
-    if kind > 3 {
-        return 3;
-    }
-    if user > LAST_NAME {
-        return 4;
-    }
-    if object > LAST_NAME {
-        return 4;
-    }
-    if key > LAST_NAME {
-        return 4;
-    }
-    if id > LAST_NAME {
-        return 4;
-    }
-    0
+    Ok(kind)
 }
 
-// The same after 1 and 2 of the block.
-fn refusal(block: &[u8], user: u64, object: u64, kind: u64, key: u64, id: u64) -> u8
-    ensures { Answers (bears_needs block.now user object kind key id) result }
-{
-    let number = index::tested(block);
-    if number != 0 {
-        return number;
+// A question that is in order: whether the record of the kind with the key and the id bears on the rights of the user on the object in the block.
+#[derive(Clone, Copy)]
+struct Asked<'a> {
+    block: &'a [u8],
+    user: u64,
+    object: u64,
+    kind: Kind,
+    key: u64,
+    id: u64,
+    ghost user_named: { IsName user },
+    ghost object_named: { IsName object },
+    ghost key_named: { IsName key },
+    ghost id_named: { IsName id },
+}
+
+impl Asked<'_> {
+    // An M record with the key bears: the key is reached from the user or from the object.
+    fn membership_bears(self) -> Result<bool, Refusal>
+        ensures { Tells self.entry.block.now
+            (Near 31 self.entry.block.now self.entry.user self.entry.key ⊎ Near 31 self.entry.block.now self.entry.object self.entry.key)
+            result }
+    {
+        if rights::is_near(self.block, self.user, self.key, BEFORE_LAST)? {
+            return Ok(true);
+        }
+        rights::is_near(self.block, self.object, self.key, BEFORE_LAST)
     }
-    record_refusal(user, object, kind, key, id)
-}
 
-// An M record with the key bears: the key is reached from the user or from the object.
-fn membership_bears(block: &[u8], user: u64, object: u64, key: u64) -> Answer
-    requires { IsName user × (IsName object × IsName key) }
-    ensures { Tells block.now (Near 31 block.now user key ⊎ Near 31 block.now object key) result }
-{
-    match rights::is_near(block, user, key, BEFORE_LAST) {
-        Answer::Yes => Answer::Yes,
-        Answer::No => rights::is_near(block, object, key, BEFORE_LAST),
-        Answer::Refused(number) => Answer::Refused(number),
+    // What is granted on the key counts for the object: the key is 0, or it is reached from the object.
+    fn counts_for(self) -> Result<bool, Refusal>
+        requires { Sized self.block.now × Good self.block.now }
+        ensures { Tells self.entry.block.now (Near 32 self.entry.block.now self.entry.object self.entry.key ⊎ (self.entry.key ≡ 0)) result }
+    {
+        if self.key == 0 {
+            return Ok(true);
+        }
+        rights::is_near(self.block, self.object, self.key, LIMIT)
     }
-}
 
-// What is granted on the key counts for the object: the key is 0, or it is reached from the object.
-fn counts_for(block: &[u8], object: u64, key: u64) -> Answer
-    requires { Sized block.now × (Good block.now × (IsName object × IsName key)) }
-    ensures { Tells block.now (Near 32 block.now object key ⊎ (key ≡ 0)) result }
-{
-    if key == 0 {
-        return Answer::Yes;
+    // A P record with the key and the id bears: the id is reached from the user, and the key counts for the object.
+    fn permission_bears(self) -> Result<bool, Refusal>
+        ensures { Tells self.entry.block.now
+            ((Near 32 self.entry.block.now self.entry.object self.entry.key ⊎ (self.entry.key ≡ 0))
+            × Near 32 self.entry.block.now self.entry.user self.entry.id)
+            result }
+    {
+        if rights::is_near(self.block, self.user, self.id, LIMIT)? {
+            return self.counts_for();
+        }
+        Ok(false)
     }
-    rights::is_near(block, object, key, LIMIT)
-}
 
-// A P record with the key and the id bears: the id is reached from the user, and the key counts for the object.
-fn permission_bears(block: &[u8], user: u64, object: u64, key: u64, id: u64) -> Answer
-    requires { IsName user × (IsName object × (IsName key × IsName id)) }
-    ensures { Tells block.now ((Near 32 block.now object key ⊎ (key ≡ 0)) × Near 32 block.now user id) result }
-{
-    match rights::is_near(block, user, id, LIMIT) {
-        Answer::Yes => counts_for(block, object, key),
-        Answer::No => Answer::No,
-        Answer::Refused(number) => Answer::Refused(number),
+    // An F record with the key bears: the key is the object, or a group that its M records name.
+    fn filter_bears(self) -> Result<bool, Refusal>
+        ensures { Tells self.entry.block.now (Looked self.entry.block.now self.entry.object self.entry.key) result }
+    {
+        rights::is_near(self.block, self.object, self.key, OWN_GROUPS)
     }
-}
 
-// An F record with the key bears: the key is the object, or a group that its M records name.
-fn filter_bears(block: &[u8], object: u64, key: u64) -> Answer
-    requires { IsName object × IsName key }
-    ensures { Tells block.now (Looked block.now object key) result }
-{
-    rights::is_near(block, object, key, OWN_GROUPS)
-}
-
-// The record of the kind with the key and the id bears, if the block is not refused.
-fn record_bears(block: &[u8], user: u64, object: u64, kind: Kind, key: u64, id: u64) -> Answer
-    requires { IsName user × (IsName object × (IsName key × IsName id)) }
-    ensures { Tells block.now (Bears block.now user object kind key id) result }
-{
-    match kind {
-        Kind::Membership => membership_bears(block, user, object, key),
-        Kind::Permission => permission_bears(block, user, object, key, id),
-        Kind::Filter => filter_bears(block, object, key),
+    // The record of the kind with the key and the id bears, if the block is not refused.
+    fn record_bears(self) -> Result<bool, Refusal>
+        ensures { Tells self.entry.block.now
+            (Bears self.entry.block.now self.entry.user self.entry.object self.entry.kind self.entry.key self.entry.id)
+            result }
+    {
+        match self.kind {
+            Kind::Membership => self.membership_bears(),
+            Kind::Permission => self.permission_bears(),
+            Kind::Filter => self.filter_bears(),
+        }
     }
 }
 
 // Whether the record of the kind with the key and the id, which need not be in the block, bears on the rights of the user on the object. Where it does
 // not, no change of it changes an answer about the two. Where the record is not refused, the block is tested by what is asked of it first.
-pub fn bears(block: &[u8], user: u64, object: u64, kind: u64, key: u64, id: u64) -> Answer
+pub fn bears(
+    block: &[u8],
+    user: u64,
+    object: u64,
+    kind: u64,
+    key: u64,
+    id: u64,
+) -> Result<bool, Refusal>
     ensures { AsksBearing block.now user object kind key id result }
 {
-    if record_refusal(user, object, kind, key, id) != 0 {
-        return Answer::Refused(refusal(block, user, object, kind, key, id));
+    match record_kind(user, object, kind, key, id) {
+        Ok(kind) => Asked {
+            block,
+            user,
+            object,
+            kind,
+            key,
+            id,
+        }
+        .record_bears(),
+        Err(refusal) => {
+            index::tested(block)?;
+            Err(refusal)
+        }
     }
-    record_bears(block, user, object, index::kind_of(kind), key, id)
 }

@@ -1,13 +1,9 @@
 -- M-105: the calls of this crate, all refused with "12 for" "a date that is none, or a day, date, term or anniversary outside the range".
-use Rattle.std.specs.Prelude.{ℕ, ◌<◌, ◌≡◌, [], ◌∷◌, ◌↔◌}
-use Rattle.index.specs.Numbers.{First}
+use Rattle.std.specs.Prelude.{ℕ, ◌≡◌, [], ◌∷◌, ◌↔◌, Result}
+use Rattle.index.specs.declared.refusals.Refusal.{Refusal}
+use Rattle.index.specs.Numbers.{First, Means}
 use Rattle.calendar.specs.declared.Date.{Date}
-use Rattle.calendar.specs.declared.DayNumber.{DayNumber}
-use Rattle.calendar.specs.declared.DayNumber.TheVariants as numbered
-use Rattle.calendar.specs.declared.Dated.{Dated}
-use Rattle.calendar.specs.declared.Dated.TheVariants as dated
 use Rattle.calendar.specs.declared.Span.{Span}
-use Rattle.calendar.specs.declared.Span.TheVariants as span
 use Rattle.calendar.specs.Dates.{date, IsDate, day_number, IsDay}
 use Rattle.calendar.specs.Terms.{anniversary, IsTerm}
 
@@ -40,16 +36,13 @@ SpanOf first term o =
 abbrev pub EachWay : Type 0
 EachWay = (year month day n : ℕ) → DayOf year month day (0, n) ↔ DateOf n (0, date year month day)
 
--- ---- what each case of an answer stands for: the number, and its value, which are an outcome of the call
+-- ---- what the answers of the code stand for: the number, and its value, which are an outcome of the call
 
-unfoldable pub DayAnswers : (ℕ × ℕ → Type 0) → DayNumber → Type 0
-DayAnswers Outcome (numbered.Day n) = Outcome (0, n)
-DayAnswers Outcome (numbered.Refused n) = (0 < n) × Outcome (n, 0)
+unfoldable pub DayAnswers : (ℕ × ℕ → Type 0) → Result ℕ Refusal → Type 0
+DayAnswers Outcome r = Means (λ n. n) 0 Outcome r
 
-unfoldable pub DateAnswers : (ℕ × Date → Type 0) → Dated → Type 0
-DateAnswers Outcome (dated.On d) = Outcome (0, d)
-DateAnswers Outcome (dated.Refused n) = (0 < n) × Outcome (n, no_date)
+unfoldable pub DateAnswers : (ℕ × Date → Type 0) → Result Date Refusal → Type 0
+DateAnswers Outcome r = Means (λ d. d) no_date Outcome r
 
-unfoldable pub SpanAnswers : (ℕ × (ℕ × ℕ) → Type 0) → Span → Type 0
-SpanAnswers Outcome (span.Days from to) = Outcome (0, (from, to))
-SpanAnswers Outcome (span.Refused n) = (0 < n) × Outcome (n, (0, 0))
+unfoldable pub SpanAnswers : (ℕ × (ℕ × ℕ) → Type 0) → Result Span Refusal → Type 0
+SpanAnswers Outcome r = Means (λ s. (s.from, s.to)) (0, 0) Outcome r

@@ -6,24 +6,13 @@ ghost use Rattle.calendar.specs.Dates.{months, sum, years_days, IsDate, day_numb
 ghost use Rattle.calendar.specs.Calls.{DayOf, DateOf, DayAnswers, DateAnswers};
 
 use crate::years::{month_days, months_days, years_days};
-use crate::{Date, Dated, DayNumber, FIRST_YEAR, LAST_DAY, LAST_YEAR};
+use crate::{Date, FIRST_YEAR, LAST_DAY, LAST_YEAR};
+use index::Refusal;
 
 pub(crate) fn is_date(d: Date) -> bool
     ensures { Says (IsDate d) result }
 {
-    if d.year < FIRST_YEAR {
-        return false;
-    }
-    if d.year > LAST_YEAR {
-        return false;
-    }
-    if d.day < 1 {
-        return false;
-    }
-    if d.day > month_days(d.year, d.month) {
-        return false;
-    }
-    true
+    (FIRST_YEAR..=LAST_YEAR).contains(&d.year) && (1..=month_days(d.year, d.month)).contains(&d.day)
 }
 
 // The day number of what is a date.
@@ -35,18 +24,14 @@ pub(crate) fn number_of(d: Date) -> u64
 }
 
 // The number of a date's day.
-pub fn day_of(year: u64, month: u64, day: u64) -> DayNumber
+pub fn day_of(year: u64, month: u64, day: u64) -> Result<u64, Refusal>
     ensures { DayAnswers (DayOf year month day) result }
 {
-    let d = Date {
-        year: year,
-        month: month,
-        day: day,
-    };
+    let d = Date { year, month, day };
     if !is_date(d) {
-        return DayNumber::Refused(12);
+        return Err(Refusal::Date);
     }
-    DayNumber::Day(number_of(d))
+    Ok(number_of(d))
 }
 
 // The years from 1970 on that are over on day n: one for each 366 days, or one more.
@@ -76,19 +61,19 @@ fn months_over(year: u64, n: u64) -> u64
 }
 
 // The date of a day.
-pub fn date_of(day: u64) -> Dated
+pub fn date_of(day: u64) -> Result<Date, Refusal>
     ensures { DateAnswers (DateOf day) result }
 {
     if day > LAST_DAY {
-        return Dated::Refused(12);
+        return Err(Refusal::Date);
     }
     let years = years_over(day);
     let year = FIRST_YEAR + years;
     let in_year = day - years_days(years);
     let months = months_over(year, in_year);
     let in_month = in_year - months_days(year, months);
-    Dated::On(Date {
-        year: year,
+    Ok(Date {
+        year,
         month: months + 1,
         day: in_month + 1,
     })

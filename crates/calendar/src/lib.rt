@@ -25,23 +25,9 @@ pub struct Date {
     pub day: u64,
 }
 
-// The number of a day, or the number of the refusal.
+// The first day of a term, and that of its anniversary.
 #[derive(Clone, Copy)]
-pub enum DayNumber {
-    Day(u64),
-    Refused(u8),
-}
-
-// A date, or the number of the refusal.
-#[derive(Clone, Copy)]
-pub enum Dated {
-    On(Date),
-    Refused(u8),
-}
-
-// The first day of a term and that of its anniversary, or the number of the refusal.
-#[derive(Clone, Copy)]
-pub enum Span {
-    Days(u64, u64),
-    Refused(u8),
+pub struct Span {
+    pub from: u64,
+    pub to: u64,
 }

@@ -11,13 +11,11 @@ const LEAPS: u64 = 477;
 fn leap_day(year: u64) -> u64
     ensures { result ≡ leap_day year }
 {
-    if year % 4 != 0 {
-        return 0;
+    if year % 4 == 0 && (year % 100 != 0 || year % 400 == 0) {
+        1
+    } else {
+        0
     }
-    if year % 100 != 0 {
-        return 1;
-    }
-    if year % 400 == 0 { 1 } else { 0 }
 }
 
 // The days of the first n months of a year: 367 twelfths a month, less the two days that February has not, or one in a leap year.
@@ -46,14 +44,9 @@ pub(crate) fn years_days(n: u64) -> u64
 pub(crate) fn month_days(year: u64, month: u64) -> u64
     ensures { result ≡ month_days year month }
 {
-    if month < 1 {
-        return 0;
+    match month {
+        2 => 28 + leap_day(year),
+        1..=12 => 30 + (month + month / 8) % 2,
+        _ => 0,
     }
-    if month > 12 {
-        return 0;
-    }
-    if month == 2 {
-        return 28 + leap_day(year);
-    }
-    30 + (month + month / 8) % 2
 }

@@ -4,11 +4,13 @@ use mathlib.Core.Path.{◌≡◌, ap}
 use mathlib.Core.List.{List}
 use mathlib.Core.Logic.{◌↔◌, inl, inr}
 use native.Mathlib.Omega.{arith}
-use Rattle.index.specs.declared.Wrote.{Wrote}
-use Rattle.index.specs.declared.Wrote.TheVariants as wrote
-use Rattle.index.specs.declared.Took.{Took}
-use Rattle.index.specs.declared.Took.TheVariants as took
-use Rattle.index.specs.Numbers.{First}
+use Rattle.std.specs.Prelude.{Result, Ok, Err}
+use Rattle.index.specs.declared.refusals.Refusal.{Refusal}
+use Rattle.index.specs.declared.refusals.Refusal.TheVariants.{Directory}
+use Rattle.index.specs.declared.refusals.ReadError.{ReadError}
+use Rattle.index.specs.declared.refusals.ReadError.TheVariants.{NotASet, Refused}
+use Rattle.index.specs.Numbers.{First, number}
+use Rattle.index.proofs.laws.Refusing.{once}
 use Rattle.index.specs.Wide.{Sent}
 use Rattle.index.specs.Calls.{block_needs, Sends, WritesSet, ReadsSet, WriteAnswers, ReadAnswers}
 use Rattle.index.proofs.laws.message.OneMessage.{one_sent}
@@ -70,33 +72,29 @@ module _ (b d : List ℕ) where
       (ap (λ (o : ℕ × List ℕ). o.0) e, ap (λ (o : ℕ × List ℕ). o.1) e)
 
   module _ (kind x : ℕ) (s : List ℕ) where
-    pub read_without : (b₁ d₁ : List ℕ) (r : Took) → (r ≡ took.Refused 13 → ⊥) → ReadAnswersBy b d kind x s r b₁ d₁ → ReadAnswers b kind x s r b₁
+    pub read_without : (b₁ d₁ : List ℕ) (r : Result ℕ ReadError) → (r ≡ Err (Refused Directory) → ⊥) → ReadAnswersBy b d kind x s r b₁ d₁ → ReadAnswers b kind x s r b₁
     unfolding ReadAnswers ReadAnswersBy ReadBy
-    read_without b₁ d₁ (took.Set v) not13 p =
+    read_without b₁ d₁ (Ok v) not13 p =
         kept_as_without b d (ReadsSet b kind x s) (read_tests b kind x s) (0, v, b₁, d₁) (λ e. omega arith) p
-    read_without b₁ d₁ (took.Wrong place) not13 p =
+    read_without b₁ d₁ (Err (NotASet place)) not13 p =
         kept_as_without b d (ReadsSet b kind x s) (read_tests b kind x s) (9, place, b₁, d₁) (λ e. omega arith) p
-    read_without b₁ d₁ (took.Refused n) not13 p = (
-      p.0,
-      p.1,
-      kept_as_without b d (ReadsSet b kind x s) (read_tests b kind x s) (n, 0, b₁, d₁) (λ e. not13 (ap took.Refused e)) p.2,
-    )
+    read_without b₁ d₁ (Err (Refused e)) not13 p =
+        kept_as_without b d (ReadsSet b kind x s) (read_tests b kind x s) (number e, 0, b₁, d₁)
+        (λ q. not13 (ap (λ (r : Refusal). Err (Refused r)) (once e Directory q))) p
 
-    pub same_read : (r r' : Took) (b₁ b₂ d₁ : List ℕ) → (r ≡ took.Refused 13 → ⊥) → ReadAnswersBy b d kind x s r b₁ d₁
+    pub same_read : (r r' : Result ℕ ReadError) (b₁ b₂ d₁ : List ℕ) → (r ≡ Err (Refused Directory) → ⊥) → ReadAnswersBy b d kind x s r b₁ d₁
         → ReadAnswers b kind x s r' b₂ → (r ≡ r') × (b₁ ≡ b₂)
     same_read r r' b₁ b₂ d₁ not13 p q = one_took b kind x s r r' b₁ b₂ (read_without b₁ d₁ r not13 p) q
 
-    pub write_without : (s₁ : List ℕ) (r : Wrote) → (r ≡ wrote.Refused 13 → ⊥) → WriteAnswersBy b d kind x s r s₁ → WriteAnswers b kind x s r s₁
+    pub write_without : (s₁ : List ℕ) (r : Result ℕ Refusal) → (r ≡ Err Directory → ⊥) → WriteAnswersBy b d kind x s r s₁ → WriteAnswers b kind x s r s₁
     unfolding WriteAnswers WriteAnswersBy WriteBy
-    write_without s₁ (wrote.Text v) not13 p =
+    write_without s₁ (Ok v) not13 p =
         as_without b d (λ n. (n, 0, s)) (WritesSet b kind x s) (write_tests b kind x s) (0, v, s₁)
         (λ e. omega (arith, ap (λ (o : ℕ × ℕ × List ℕ). o.0) e)) p
-    write_without s₁ (wrote.Refused n) not13 p = (
-      p.0,
-      as_without b d (λ n. (n, 0, s)) (WritesSet b kind x s) (write_tests b kind x s) (n, 0, s₁)
-          (λ e. not13 (ap wrote.Refused (ap (λ (o : ℕ × ℕ × List ℕ). o.0) e))) p.1,
-    )
+    write_without s₁ (Err e) not13 p =
+        as_without b d (λ n. (n, 0, s)) (WritesSet b kind x s) (write_tests b kind x s) (number e, 0, s₁)
+        (λ q. not13 (ap Err (once e Directory (ap (λ (o : ℕ × ℕ × List ℕ). o.0) q)))) p
 
-    pub same_write : (r r' : Wrote) (s₁ s₂ : List ℕ) → (r ≡ wrote.Refused 13 → ⊥) → WriteAnswersBy b d kind x s r s₁
+    pub same_write : (r r' : Result ℕ Refusal) (s₁ s₂ : List ℕ) → (r ≡ Err Directory → ⊥) → WriteAnswersBy b d kind x s r s₁
         → WriteAnswers b kind x s r' s₂ → (r ≡ r') × (s₁ ≡ s₂)
     same_write r r' s₁ s₂ not13 p q = one_wrote b kind x s r r' s₁ s₂ (write_without s₁ r not13 p) q

@@ -5,9 +5,11 @@ use mathlib.Core.List.{List}
 use mathlib.Core.Logic.{inl, inr}
 use native.Mathlib.Decide.{ℕ_discrete}
 use native.Mathlib.Omega.{arith}
-use Rattle.index.specs.declared.Took.{Took}
-use Rattle.index.specs.declared.Took.TheVariants as took
-use Rattle.index.specs.Numbers.{First, Answers}
+use Rattle.std.specs.Prelude.{Ok, Err}
+use Rattle.index.specs.declared.refusals.ReadError.{ReadError}
+use Rattle.index.specs.declared.refusals.ReadError.TheVariants.{NotASet, Refused}
+use Rattle.index.proofs.laws.Refusing.{some as is_some}
+use Rattle.index.specs.Numbers.{First, Answers, number}
 use Rattle.index.specs.Block.{Good}
 use Rattle.index.specs.Message.{kind_of}
 use Rattle.index.specs.Wide.{Sent}
@@ -17,7 +19,7 @@ use Rattle.index.proofs.laws.message.StaysGood.{stays_good}
 use Rattle.index.proofs.laws.demands.Unchanged.{sent_unchanged, read_unchanged}
 use Rattle.directory.specs.Directory.{Own}
 use Rattle.directory.specs.By.{directory_needs, KeptBy, SendsBy, ReadBy, ReadAnswersBy}
-use Rattle.directory.proofs.Passing.{Tests, not_own, by_refused, by_own, sent_tests, read_tests}
+use Rattle.directory.proofs.Passing.{Tests, by_refused, by_own, sent_tests, read_tests}
 
 module _ (b d : List ℕ) (Call : ℕ × ℕ × List ℕ → Type 0) where
   -- What the call without the directory leaves, and the directory of the block then.
@@ -94,9 +96,9 @@ module _ (b : List ℕ) (m : Sent) (n : ℕ) (b' : List ℕ) (told : Sends b m (
       kept_own b d (Valued b m) n 0 b' d' (λ some. (sent_same some, same some)) then own ((valued_tests b m (n, 0, b')).0 (refl, told))
 
 -- A directory that is not a good block's own is refused.
-pub sent_other : (b d : List ℕ) (m : Sent) (n : ℕ) → (Good b → Own b d → ⊥) → Answers (directory_needs b d) n → SendsBy b d m (n, 0, b, d)
+pub sent_other : (b d : List ℕ) (m : Sent) (n : ℕ) → (n ≡ 0 → ⊥) → Answers (directory_needs b d) n → SendsBy b d m (n, 0, b, d)
 unfolding SendsBy
-sent_other b d m n other told = kept_refused b d (Valued b m) (not_own b d other told) told
+sent_other b d m n some told = kept_refused b d (Valued b m) some told
 
 -- ---- a read
 
@@ -112,7 +114,7 @@ module _ (b : List ℕ) (kind x : ℕ) (text b' : List ℕ) where
         kept_own b d (ReadsSet b kind x text) n v b' d' (λ some. (read_same some, same some)) then own ((read_tests b kind x text (n, v, b')).0 told)
 
   -- An accepted read found a good block, and leaves one.
-  pub read_good : (v : ℕ) → ReadAnswers b kind x text (took.Set v) b' → Good b × Good b'
+  pub read_good : (v : ℕ) → ReadAnswers b kind x text (Ok v) b' → Good b × Good b'
   unfolding ReadAnswers ReadsSet set_needs block_needs
   read_good v told = let q = first_passed (λ n. (n, 0, b)) (ReadsText b (kind_of kind) x text) (0, v, b') (λ o. o.0) (λ n. refl) (set_needs b kind x) (omega arith) refl told in (q.0.1.0, go q.1)
     where
@@ -123,14 +125,11 @@ module _ (b : List ℕ) (kind x : ℕ) (text b' : List ℕ) where
 
   -- The same for the answers of the code: of a set, and of no set.
   module _ (d : List ℕ) (own : Good b → Own b d) where
-    pub took_set : (d' : List ℕ) (v : ℕ) → Own b' d' → ReadAnswers b kind x text (took.Set v) b' → ReadAnswersBy b d kind x text (took.Set v) b' d'
+    pub took_set : (d' : List ℕ) (v : ℕ) → Own b' d' → ReadAnswers b kind x text (Ok v) b' → ReadAnswersBy b d kind x text (Ok v) b' d'
     unfolding ReadAnswers ReadAnswersBy
     took_set d' v then told = read_kept 0 v told d d' own (λ z. then) (λ some. absurd (some refl))
 
-    pub took_none : (r : Took) → ((n : ℕ) → r ≡ took.Set n → ⊥) → ReadAnswers b kind x text r b'
-        → ReadAnswersBy b d kind x text r b' d
+    pub took_none : (e : ReadError) → ReadAnswers b kind x text (Err e) b' → ReadAnswersBy b d kind x text (Err e) b' d
     unfolding ReadAnswers ReadAnswersBy
-    took_none (took.Set v) o told = absurd (o v refl)
-    took_none (took.Wrong place) o told = read_kept 9 place told d d own (λ z. absurd (omega arith)) (λ some. refl)
-    took_none (took.Refused n) o told =
-        (told.0, told.1, read_kept n 0 told.2 d d own (λ z. absurd (omega (arith, told.0))) (λ some. refl))
+    took_none (NotASet place) told = read_kept 9 place told d d own (λ z. absurd (omega arith)) (λ some. refl)
+    took_none (Refused e) told = read_kept (number e) 0 told d d own (λ z. absurd (is_some e z)) (λ some. refl)

@@ -2,14 +2,16 @@
 use Prim.Native.Nat.{ℕ}
 use mathlib.Core.Path.{◌≡◌, sym, ap, ◌∙◌}
 use mathlib.Core.List.{List}
-use Rattle.index.specs.declared.Wrote.{Wrote}
-use Rattle.index.specs.declared.Took.{Took}
+use Rattle.std.specs.Prelude.{Result}
+use Rattle.index.specs.declared.refusals.Refusal.{Refusal}
+use Rattle.index.specs.declared.refusals.ReadError.{ReadError}
 use Rattle.index.specs.Numbers.{Answers}
 use Rattle.index.specs.Wide.{Sent}
 use Rattle.index.specs.Calls.{WritesSet, ReadsSet}
 use Rattle.index.proofs.laws.OneFirst.{one_first}
 use Rattle.index.proofs.laws.message.OneMessage.{one_sent}
-use Rattle.index.proofs.laws.demands.OneCall.{one_write, one_read, wrote_once, took_once}
+use Rattle.index.proofs.laws.demands.OneCall.{one_write, one_read}
+use Rattle.index.proofs.laws.OneResult.{answers_once, read_once}
 use Rattle.directory.specs.Directory.{Own}
 use Rattle.directory.specs.By.{making_needs, MakesDirectory, directory_needs, By, KeptBy, SendsBy, ReadBy, WriteBy, WriteAnswersBy, ReadAnswersBy}
 use Rattle.directory.proofs.OneDirectory.{one_directory}
@@ -65,17 +67,17 @@ module _ (b d : List ℕ) where
     one_write_by = one_by b d (λ n. (n, 0, s)) (WritesSet b kind x s) (one_write b kind x s)
 
     -- The same for the answers of the code.
-    pub one_wrote_by : (r r' : Wrote) (o o' : List ℕ) → WriteAnswersBy b d kind x s r o → WriteAnswersBy b d kind x s r' o'
+    pub one_wrote_by : (r r' : Result ℕ Refusal) (o o' : List ℕ) → WriteAnswersBy b d kind x s r o → WriteAnswersBy b d kind x s r' o'
         → (r ≡ r') × (o ≡ o')
     unfolding WriteAnswersBy
-    one_wrote_by = wrote_once (WriteBy b d kind x s) one_write_by
+    one_wrote_by = answers_once (λ n. n) 0 (λ n m e. e) (WriteBy b d kind x s) one_write_by
 
-    pub one_took_by : (r r' : Took) (b₁ b₂ d₁ d₂ : List ℕ) → ReadAnswersBy b d kind x s r b₁ d₁ → ReadAnswersBy b d kind x s r' b₂ d₂
+    pub one_took_by : (r r' : Result ℕ ReadError) (b₁ b₂ d₁ d₂ : List ℕ) → ReadAnswersBy b d kind x s r b₁ d₁ → ReadAnswersBy b d kind x s r' b₂ d₂
         → (r ≡ r') × (b₁ ≡ b₂) × (d₁ ≡ d₂)
     unfolding ReadAnswersBy
     one_took_by r r' b₁ b₂ d₁ d₂ p q =
         let e =
-        took_once {S = List ℕ × List ℕ} (λ o. ReadBy b d kind x s (o.0, o.1, o.2.0, o.2.1))
+        read_once {S = List ℕ × List ℕ} (λ o. ReadBy b d kind x s (o.0, o.1, o.2.0, o.2.1))
         (λ o o' p q.
         let e = one_read_by (o.0, o.1, o.2.0, o.2.1) (o'.0, o'.1, o'.2.0, o'.2.1) p q in
         λ i. ((e i).0, (e i).1, ((e i).2, (e i).3))) r r' (b₁, d₁) (b₂, d₂) p q in

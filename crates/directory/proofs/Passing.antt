@@ -5,17 +5,17 @@ use mathlib.Core.List.{List, [], ◌∷◌, ◌++◌}
 use mathlib.Core.Logic.{◌↔◌, inl, inr}
 use native.Mathlib.Omega.{arith}
 use lib.ListN.{length}
-use Rattle.index.specs.declared.Wrote.{Wrote}
-use Rattle.index.specs.declared.Wrote.TheVariants as wrote
+use Rattle.std.specs.Prelude.{Result}
+use Rattle.index.specs.declared.refusals.Refusal.{Refusal}
 use Rattle.index.specs.Numbers.{First, Answers}
 use Rattle.index.specs.Block.{IsName, Sized, Good}
 use Rattle.index.specs.Message.{IsKind, kind_of}
 use Rattle.index.specs.Wide.{Sent}
 use Rattle.index.specs.Text.{text_of, set_of}
-use Rattle.index.specs.Calls.{block_needs, sent_needs, Sends, set_needs, write_needs, Written, WritesSet, WriteAnswers, ReadsSet, WroteMeans}
+use Rattle.index.specs.Calls.{block_needs, sent_needs, Sends, set_needs, write_needs, Written, WritesSet, WriteAnswers, ReadsSet}
 use Rattle.index.proofs.laws.Firsts.{first_map, first_all, refuses, passed}
-use Rattle.index.proofs.laws.OneFirst.{first_cases}
 use Rattle.directory.specs.Directory.{Own}
+use Rattle.index.proofs.laws.Refusing.{means_map}
 use Rattle.directory.specs.By.{directory_needs, By, WriteBy, WriteAnswersBy}
 
 -- ---- a call tests the block first
@@ -100,24 +100,9 @@ tested_own b d n own (inr (s, inr (g, p))) = inr (s, inr (g, inr (own g, p)))
 
 -- ---- writing
 
--- What holds of the number and the value of one call, if it holds of those of another, holds of the answer of the code.
-pub wrote_map : (P Q : ℕ → ℕ → Type 0) → ((n v : ℕ) → P n v → Q n v) → (r : Wrote) → WroteMeans P r → WroteMeans Q r
-wrote_map P Q f (wrote.Text n) p = f 0 n p
-wrote_map P Q f (wrote.Refused n) p = (p.0, f n 0 p.1)
-
-pub write_by_own : (b d : List ℕ) (kind x : ℕ) (out : List ℕ) (r : Wrote) (out' : List ℕ) → (Good b → Own b d)
+pub write_by_own : (b d : List ℕ) (kind x : ℕ) (out : List ℕ) (r : Result ℕ Refusal) (out' : List ℕ) → (Good b → Own b d)
     → WriteAnswers b kind x out r out' → WriteAnswersBy b d kind x out r out'
 unfolding WriteAnswers WriteAnswersBy WriteBy
 write_by_own b d kind x out r out' own =
-    wrote_map _ _
-    (λ n v p. by_own b d (λ n. (n, 0, out)) (WritesSet b kind x out) (n, v, out') own ((write_tests b kind x out (n, v, out')).0 p)) r
-
--- A directory that is not a good block's own is refused.
-pub not_own : (b d : List ℕ) {n : ℕ} → (Good b → Own b d → ⊥) → Answers (directory_needs b d) n → n ≡ 0 → ⊥
-not_own b d other a e = let f = fit b d e a in other f.good f.own
-
--- None of these numbers is 9.
-pub not_nine : (b d : List ℕ) {n : ℕ} → Answers (directory_needs b d) n → n ≡ 9 → ⊥
-unfolding directory_needs block_needs
-not_nine b d {n} =
-    first_cases (λ n. n ≡ 9 → ⊥) (λ n. n ≡ 9 → ⊥) (λ n. n) (λ n. n ≡ 0) (λ n q. q) (λ n z e. omega arith) (directory_needs b d) (omega arith) n
+    means_map (λ n. n) 0 _ _
+    (λ o p. by_own b d (λ n. (n, 0, out)) (WritesSet b kind x out) (o.0, o.1, out') own ((write_tests b kind x out (o.0, o.1, out')).0 p)) r

@@ -5,8 +5,7 @@ use mathlib.Core.List.{List}
 use mathlib.Core.Logic.{⊎_elim}
 use native.Mathlib.Nat.{eq-or-lt_of_le}
 use native.Mathlib.Omega.{arith}
-use lib.ListN.{length, get_or, set, length-set}
-use lib.Seq.{get_or-set_same, get_or-set_other}
+use lib.ListN.{length, get_or}
 use Rattle.index.specs.declared.Kind.{Kind}
 use Rattle.index.specs.declared.Kind.TheVariants.{Membership, Permission, Filter}
 use Rattle.index.specs.Block.{from, size, place, key}
@@ -16,25 +15,6 @@ use Rattle.directory.specs.Directory.{part_length, directory_length, part_start,
 use Rattle.directory.specs.work.Entries.{Outside, Put, Entries, Filled}
 
 -- ---- a run of entries
-
-pub put_none : (a v : ℕ) (d : List ℕ) → Put a a v d d
-put_none a v d = record {
-  rest = record { same_length = refl; before = λ t h. refl; after = λ t h. refl };
-  inside = λ t l h. absurd (omega arith);
-}
-
-pub put_more : {a e v : ℕ} {d d' : List ℕ} → a ≤ e → e < length d' → Put a e v d d' → Put a (e + 1) v d (set d' e v)
-put_more {a} {e} {v} {d} {d'} l inside p = record {
-  rest = record {
-    same_length = length-set d' e v ∙ p.rest.same_length;
-    before = λ t h. get_or-set_other d' e t v 0 (omega arith) ∙ p.rest.before t h;
-    after = λ t h. get_or-set_other d' e t v 0 (omega arith) ∙ p.rest.after t (omega arith);
-  };
-  inside =
-      λ t k h.
-      ⊎_elim (λ (q : t ≡ e). rw q (get_or-set_same d' e v 0 inside))
-      (λ q. get_or-set_other d' e t v 0 (omega arith) ∙ p.inside t k q) (eq-or-lt_of_le {n = t} {m = e} (omega arith));
-}
 
 -- ---- a part, run by run: one for each key
 

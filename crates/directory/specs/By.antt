@@ -1,11 +1,11 @@
 -- M-106, "A directory of keys": the calls by a directory, and the number 13.
-use Rattle.std.specs.Prelude.{ℕ, ◌≡◌, List, [], ◌∷◌, ◌++◌, length}
-use Rattle.index.specs.declared.Wrote.{Wrote}
-use Rattle.index.specs.declared.Took.{Took}
-use Rattle.index.specs.Numbers.{First}
+use Rattle.std.specs.Prelude.{ℕ, ◌≡◌, List, [], ◌∷◌, ◌++◌, length, Result}
+use Rattle.index.specs.declared.refusals.Refusal.{Refusal}
+use Rattle.index.specs.declared.refusals.ReadError.{ReadError}
+use Rattle.index.specs.Numbers.{First, Means, ReadMeans}
 use Rattle.index.specs.Wide.{Sent}
 use Rattle.index.specs.Wide.Sent.{plain, wide}
-use Rattle.index.specs.Calls.{block_needs, Sends, WritesSet, ReadsSet, WroteMeans, TookMeans}
+use Rattle.index.specs.Calls.{block_needs, Sends, WritesSet, ReadsSet}
 use Rattle.directory.specs.Directory.{directory_length, Own}
 
 -- make_directory: the number, and the directory then. 13, M-106: "making one: the length only".
@@ -50,10 +50,10 @@ ReadBy b d kind x text o = KeptBy b d (ReadsSet b kind x text) o
 unfoldable pub WriteBy : List ℕ → List ℕ → ℕ → ℕ → List ℕ → (ℕ × ℕ × List ℕ) → Type 0
 WriteBy b d kind x out o = By b d (λ n. (n, 0, out)) (WritesSet b kind x out) o
 
--- ---- what each case of an answer stands for
+-- ---- what the answers of the code stand for
 
-unfoldable pub WriteAnswersBy : List ℕ → List ℕ → ℕ → ℕ → List ℕ → Wrote → List ℕ → Type 0
-WriteAnswersBy b d kind x out r out' = WroteMeans (λ n v. WriteBy b d kind x out (n, v, out')) r
+unfoldable pub WriteAnswersBy : List ℕ → List ℕ → ℕ → ℕ → List ℕ → Result ℕ Refusal → List ℕ → Type 0
+WriteAnswersBy b d kind x out r out' = Means (λ n. n) 0 (λ o. WriteBy b d kind x out (o.0, o.1, out')) r
 
-unfoldable pub ReadAnswersBy : List ℕ → List ℕ → ℕ → ℕ → List ℕ → Took → List ℕ → List ℕ → Type 0
-ReadAnswersBy b d kind x text r b' d' = TookMeans (λ n v. ReadBy b d kind x text (n, v, b', d')) r
+unfoldable pub ReadAnswersBy : List ℕ → List ℕ → ℕ → ℕ → List ℕ → Result ℕ ReadError → List ℕ → List ℕ → Type 0
+ReadAnswersBy b d kind x text r b' d' = ReadMeans (λ o. ReadBy b d kind x text (o.0, o.1, b', d')) r

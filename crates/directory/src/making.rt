@@ -2,13 +2,14 @@
 
 ghost use Rattle.std.specs.Prelude.{◌≡◌, ◌≤◌, length};
 ghost use Rattle.index.specs.Block.{Good};
+ghost use Rattle.index.specs.Numbers.{number_of};
 ghost use Rattle.directory.specs.Directory.{directory_length, Own};
 ghost use Rattle.directory.specs.By.{MakesDirectory};
 ghost use Rattle.directory.specs.work.Entries.{Put, Filled};
 
 use crate::doors::{part_at, part_of, place_of};
 use crate::{LENGTH, PART};
-use index::{Kind, PAIR};
+use index::{Kind, PAIR, Refusal};
 
 // The entries from `from` up to `end` become `value`.
 fn put(directory: &mut [u16], from: usize, end: usize, value: u16)
@@ -50,16 +51,13 @@ pub(crate) fn fill(block: &[u8], directory: &mut [u16])
 }
 
 // Makes the directory of a block.
-pub fn make_directory(block: &[u8], directory: &mut [u16]) -> u8
-    ensures { MakesDirectory block.now directory.old (result, directory.new) }
+pub fn make_directory(block: &[u8], directory: &mut [u16]) -> Result<(), Refusal>
+    ensures { MakesDirectory block.now directory.old (number_of result, directory.new) }
 {
-    let number = index::tested(block);
-    if number != 0 {
-        return number;
-    }
+    index::tested(block)?;
     if directory.len() != LENGTH {
-        return 13;
+        return Err(Refusal::Directory);
     }
     fill(block, directory);
-    0
+    Ok(())
 }

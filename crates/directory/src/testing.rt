@@ -1,7 +1,7 @@
 // Is a directory the block's own?
 
-ghost use Rattle.std.specs.Prelude.{◌≡◌, List, ℕ, ◌+◌, ◌^◌, ◌<◌, ◌≤◌, length};
-ghost use Rattle.index.specs.Numbers.{Answers};
+ghost use Rattle.std.specs.Prelude.{◌≡◌, List, ℕ, ◌+◌, ◌^◌, ◌<◌, ◌≤◌, length, IfErr, OnOk};
+ghost use Rattle.index.specs.Numbers.{number, number_of, Answers};
 ghost use Rattle.index.specs.Block.{Good, records};
 ghost use Rattle.index.specs.work.Checks.{Says};
 ghost use Rattle.directory.specs.Directory.{part_length, directory_length, Own};
@@ -10,7 +10,7 @@ ghost use Rattle.directory.specs.work.Entries.{Rises, Stands, Right};
 
 use crate::LENGTH;
 use crate::doors::{part_at, part_of, place_of};
-use index::{Kind, NAMES, PAIR};
+use index::{Kind, NAMES, PAIR, Refusal};
 
 // The entries of the part from `at` on begin with `lo`, never fall, and end with `hi`. There is no way out of the loop, so that the
 // compiler can have several of them compared at a time.
@@ -65,7 +65,7 @@ fn right(block: &[u8], directory: &[u16], kind: Kind) -> bool
 }
 
 // The directory is the block's own, if the block is good. (Of another block the answer says nothing.)
-pub(crate) fn own(block: &[u8], directory: &[u16]) -> bool
+fn own(block: &[u8], directory: &[u16]) -> bool
     ensures { Good block.now → Says (Own block.now directory.now) result }
 {
     if directory.len() != LENGTH {
@@ -80,23 +80,31 @@ pub(crate) fn own(block: &[u8], directory: &[u16]) -> bool
     right(block, directory, Kind::Filter)
 }
 
-// The number that refuses a block and a directory that is not its own: 1 or 2 of the block, or else 13.
-pub(crate) fn refused(block: &[u8]) -> u8
-    ensures { (d : List ℕ) → (Good block.now → Own block.now d → ⊥) → Answers (directory_needs block.now d) result }
+// The refusal of a block with a directory that is not its own: the block's, or else 13.
+fn refusal(block: &[u8]) -> Refusal
+    ensures { (d : List ℕ) → (Good block.now → Own block.now d → ⊥) → Answers (directory_needs block.now d) (number result) }
 {
-    let number = index::tested(block);
-    if number != 0 {
-        return number;
+    match index::tested(block) {
+        Err(refusal) => refusal,
+        Ok(()) => Refusal::Directory,
     }
-    13
 }
 
-// 1 and 2 of the block, then 13 where the directory is not the block's own, else 0.
-pub fn tested_by(block: &[u8], directory: &[u16]) -> u8
-    ensures { Answers (directory_needs block.now directory.now) result }
+// The directory is the block's own, if the block is good, or both are refused.
+pub(crate) fn owned(block: &[u8], directory: &[u16]) -> Result<(), Refusal>
+    ensures own { OnOk result (Good block.now → Own block.now directory.now) }
+    ensures other { IfErr result (λ e. Answers (directory_needs block.now directory.now) (number e)) }
 {
-    if !own(block, directory) {
-        return refused(block);
+    if own(block, directory) {
+        return Ok(());
     }
+    Err(refusal(block))
+}
+
+// 1 and 2 of the block, then 13 where the directory is not the block's own.
+pub fn tested_by(block: &[u8], directory: &[u16]) -> Result<(), Refusal>
+    ensures { Answers (directory_needs block.now directory.now) (number_of result) }
+{
+    owned(block, directory)?;
     index::tested(block)
 }

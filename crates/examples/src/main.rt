@@ -3,8 +3,7 @@
 
 ghost use Rattle.std.specs.Prelude.{◌<◌};
 
-use index::{GREATEST, HEADER, RECORD};
-use rights::{Answer, Rights};
+use index::{GREATEST, HEADER, RECORD, Refusal};
 use std::io;
 
 // The numbers of the two profiles.
@@ -24,32 +23,38 @@ fn tell(rt: &impl Print, words: &str) -> io::Result<()> {
 
 // A half: key and id, low byte first, and mask.
 fn half(key: u16, id: u16, mask: u8) -> [u8; 5] {
-    let key_low = (key % 256) as u8;
-    let key_high = (key / 256 % 256) as u8;
-    let id_low = (id % 256) as u8;
-    let id_high = (id / 256 % 256) as u8;
+    let [key_low, key_high] = key.to_le_bytes();
+    let [id_low, id_high] = id.to_le_bytes();
     [key_low, key_high, id_low, id_high, mask]
 }
 
-// A new half alone goes to the block.
-fn give(block: &mut [u8], kind: u8, key: u16, id: u16, mask: u8) -> u8 {
-    let h = half(key, id, mask);
-    let message = [kind, 2, 0, 0, 0, 0, 0, h[0], h[1], h[2], h[3], h[4]];
-    index::message(block, &message)
+// The number of an answer: 0 where the call is accepted.
+fn number_of(answer: Result<(), Refusal>) -> u64 {
+    match answer {
+        Ok(()) => 0,
+        Err(refusal) => refusal.number() as u64,
+    }
 }
 
-// A previous half alone goes to the block.
-fn withdraw(block: &mut [u8], kind: u8, key: u16, id: u16, mask: u8) -> u8 {
+// A new half alone goes to the block: the number.
+fn give(block: &mut [u8], kind: u8, key: u16, id: u16, mask: u8) -> u64 {
+    let h = half(key, id, mask);
+    let message = [kind, 2, 0, 0, 0, 0, 0, h[0], h[1], h[2], h[3], h[4]];
+    number_of(index::message(block, &message))
+}
+
+// A previous half alone goes to the block: the number.
+fn withdraw(block: &mut [u8], kind: u8, key: u16, id: u16, mask: u8) -> u64 {
     let h = half(key, id, mask);
     let message = [kind, 1, h[0], h[1], h[2], h[3], h[4], 0, 0, 0, 0, 0];
-    index::message(block, &message)
+    number_of(index::message(block, &message))
 }
 
 // The rights of the user on the object in the profile, all four asked for; 100 and the number for a refusal.
 fn held(block: &[u8], user: u64, object: u64, profile: u64) -> u64 {
     match rights::rights_of(block, user, object, 15, profile) {
-        Rights::Held(mask, _, _) => mask as u64,
-        Rights::Refused(number) => 100 + number as u64,
+        Ok(reach) => reach.rights as u64,
+        Err(refusal) => 100 + refusal.number() as u64,
     }
 }
 
@@ -65,17 +70,16 @@ fn strict(block: &[u8], user: u64, object: u64) -> u64 {
 // How many M records a question examines on both sides together; 0 for a refusal.
 fn examined(block: &[u8], user: u64, object: u64) -> u64 {
     match rights::rights_of(block, user, object, 15, ORDINARY) {
-        Rights::Held(_, of_user, of_object) => of_user as u64 + of_object as u64,
-        Rights::Refused(_) => 0,
+        Ok(reach) => reach.user as u64 + reach.object as u64,
+        Err(_) => 0,
     }
 }
 
 // 1 for yes and 0 for no, in the profile; 100 and the number for a refusal.
 fn short_in(block: &[u8], user: u64, object: u64, request: u64, profile: u64) -> u64 {
     match rights::may(block, user, object, request, profile) {
-        Answer::Yes => 1,
-        Answer::No => 0,
-        Answer::Refused(number) => 100 + number as u64,
+        Ok(yes) => yes as u64,
+        Err(refusal) => 100 + refusal.number() as u64,
     }
 }
 
@@ -97,7 +101,7 @@ fn planner(rt: &impl Print, block: &[u8]) -> io::Result<()> {
 // The mill's own case, in a block with room for one record.
 fn mill(rt: &impl Print) -> io::Result<()> {
     let mut block = [0u8; HEADER + RECORD];
-    index::make(&mut block);
+    let _ = index::make(&mut block);
     tell(
         rt,
         "two appointments give the planner, 1, the right to update the request, 9",
@@ -127,7 +131,7 @@ fn chains(rt: &impl Print, long: u16) -> io::Result<()>
     requires { long < 900 }
 {
     let mut block = [0u8; HEADER + 50 * RECORD];
-    index::make(&mut block);
+    let _ = index::make(&mut block);
     chain(&mut block, long);
     let mut other = block;
     let last = 100 + long;
@@ -145,7 +149,7 @@ fn far_denials(rt: &impl Print, long: u16) -> io::Result<()>
     requires { long < 900 }
 {
     let mut block = [0u8; HEADER + 50 * RECORD];
-    index::make(&mut block);
+    let _ = index::make(&mut block);
     chain(&mut block, long);
     let mut other = block;
     let last = 100 + long;
@@ -166,32 +170,36 @@ fn lengths(rt: &impl Print) -> io::Result<()> {
     let mut long_block = [7u8; GREATEST + 1];
     let mut least = [7u8; HEADER];
     let mut greatest = [7u8; GREATEST];
-    say(rt, "make, 15 bytes: ", index::make(&mut short_block) as u64)?;
+    say(
+        rt,
+        "make, 15 bytes: ",
+        number_of(index::make(&mut short_block)),
+    )?;
     say(
         rt,
         "make, 49,169 bytes: ",
-        index::make(&mut long_block) as u64,
+        number_of(index::make(&mut long_block)),
     )?;
     say(
         rt,
         "message, 49,169 bytes: ",
-        give(&mut long_block, 2, 9, 1, 2) as u64,
+        give(&mut long_block, 2, 9, 1, 2),
     )?;
-    say(rt, "make, 16 bytes: ", index::make(&mut least) as u64)?;
-    say(rt, "  good: ", index::tested(&least) as u64)?;
-    say(rt, "  a record: ", give(&mut least, 2, 9, 1, 2) as u64)?;
+    say(rt, "make, 16 bytes: ", number_of(index::make(&mut least)))?;
+    say(rt, "  good: ", number_of(index::tested(&least)))?;
+    say(rt, "  a record: ", give(&mut least, 2, 9, 1, 2))?;
     say(
         rt,
         "make, 49,168 bytes: ",
-        index::make(&mut greatest) as u64,
+        number_of(index::make(&mut greatest)),
     )?;
-    say(rt, "  a record: ", give(&mut greatest, 2, 9, 1, 2) as u64)
+    say(rt, "  a record: ", give(&mut greatest, 2, 9, 1, 2))
 }
 
 // Name 0 on either side, and numbers that would narrow to it.
 fn zero(rt: &impl Print) -> io::Result<()> {
     let mut block = [0u8; HEADER + 10 * RECORD];
-    index::make(&mut block);
+    let _ = index::make(&mut block);
     give(&mut block, 1, 1, 1, 2);
     give(&mut block, 2, 0, 1, 2);
     give(&mut block, 1, 0, 5, 15);
@@ -211,7 +219,7 @@ fn zero(rt: &impl Print) -> io::Result<()> {
 // Filters on an object and on its groups, one after the other: each binds.
 fn filters(rt: &impl Print) -> io::Result<()> {
     let mut block = [0u8; HEADER + 10 * RECORD];
-    index::make(&mut block);
+    let _ = index::make(&mut block);
     give(&mut block, 2, 9, 1, 15);
     give(&mut block, 1, 9, 3, 1);
     give(&mut block, 1, 9, 12, 8);
@@ -242,7 +250,7 @@ fn both(rt: &impl Print, words: &str, block: &[u8]) -> io::Result<()> {
 // Denials, one after the other: 1 is in the group 2, and 9 in the group 7, each for R alone.
 fn denials(rt: &impl Print) -> io::Result<()> {
     let mut block = [0u8; HEADER + 10 * RECORD];
-    index::make(&mut block);
+    let _ = index::make(&mut block);
     give(&mut block, 2, 9, 1, 15);
     give(&mut block, 1, 1, 2, 2);
     give(&mut block, 1, 9, 7, 2);

@@ -5,6 +5,8 @@ pub mod Tests
 pub mod Answer
 pub mod Firsts
 pub mod OneFirst
+pub mod Refusing
+pub mod OneResult
 pub mod Deciding
 -- Then by 01's headings, and what was promised to the customer.
 pub mod block

@@ -1,14 +1,12 @@
 -- 01, "Numbers a caller can get": the calls of this crate, each with its requirements in the order of their tests; M-100 for wide
 -- messages, M-107 for lengths and markers.
-use Rattle.std.specs.Prelude.{ℕ, ◌+◌, ◌*◌, ◌<◌, ◌≤◌, ◌≡◌, List, [], ◌∷◌, ◌++◌, ◌⊎◌, length, drop}
+use Rattle.std.specs.Prelude.{ℕ, ◌+◌, ◌*◌, ◌<◌, ◌≤◌, ◌≡◌, List, [], ◌∷◌, ◌++◌, ◌⊎◌, length, drop, Result}
 use Rattle.index.specs.declared.Kind.{Kind}
-use Rattle.index.specs.declared.Wrote.{Wrote}
-use Rattle.index.specs.declared.Wrote.TheVariants as wrote
-use Rattle.index.specs.declared.Took.{Took}
-use Rattle.index.specs.declared.Took.TheVariants as took
+use Rattle.index.specs.declared.refusals.Refusal.{Refusal}
+use Rattle.index.specs.declared.refusals.ReadError.{ReadError}
 use Rattle.index.specs.declared.Kind.TheVariants.{Membership}
 use Rattle.index.specs.Letters.{marker_x, marker_n, Mask}
-use Rattle.index.specs.Numbers.{First, Each}
+use Rattle.index.specs.Numbers.{First, Each, Means, ReadMeans}
 use Rattle.index.specs.Block.{IsName, Sized, Of, key, id, count_at, Has, Good, records, room, NetAt, DeniedAt}
 use Rattle.index.specs.Message.{IsKind, kind_of, Named, Masked, changes, Carried, packed_half, PackedWell, packed_changes}
 use Rattle.index.specs.Wide.{Sent, previous_of, new_of, FormedOf}
@@ -104,22 +102,13 @@ ReadsText b kind x text o = OfNone b kind text o ⊎ OfSet b kind x text o
 unfoldable pub ReadsSet : List ℕ → ℕ → ℕ → List ℕ → (ℕ × ℕ × List ℕ) → Type 0
 ReadsSet b kind x text o = First (λ n. (n, 0, b)) (set_needs b kind x) (ReadsText b (kind_of kind) x text) o
 
--- ---- what each case of an answer stands for: 01's number, and its value, which are an outcome of the call
+-- ---- what the answers of the code stand for: 01's number, and its value, which are an outcome of the call
 
-abbrev pub WroteMeans : (ℕ → ℕ → Type 0) → Wrote → Type 0
-WroteMeans Outcome (wrote.Text n) = Outcome 0 n
-WroteMeans Outcome (wrote.Refused n) = (0 < n) × Outcome n 0
+unfoldable pub WriteAnswers : List ℕ → ℕ → ℕ → List ℕ → Result ℕ Refusal → List ℕ → Type 0
+WriteAnswers b kind x out r out' = Means (λ n. n) 0 (λ o. WritesSet b kind x out (o.0, o.1, out')) r
 
-abbrev pub TookMeans : (ℕ → ℕ → Type 0) → Took → Type 0
-TookMeans Outcome (took.Set n) = Outcome 0 n
-TookMeans Outcome (took.Wrong place) = Outcome 9 place
-TookMeans Outcome (took.Refused n) = (0 < n) × (n ≡ 9 → ⊥) × Outcome n 0
-
-unfoldable pub WriteAnswers : List ℕ → ℕ → ℕ → List ℕ → Wrote → List ℕ → Type 0
-WriteAnswers b kind x out r out' = WroteMeans (λ n v. WritesSet b kind x out (n, v, out')) r
-
-unfoldable pub ReadAnswers : List ℕ → ℕ → ℕ → List ℕ → Took → List ℕ → Type 0
-ReadAnswers b kind x text r b' = TookMeans (λ n v. ReadsSet b kind x text (n, v, b')) r
+unfoldable pub ReadAnswers : List ℕ → ℕ → ℕ → List ℕ → Result ℕ ReadError → List ℕ → Type 0
+ReadAnswers b kind x text r b' = ReadMeans (λ o. ReadsSet b kind x text (o.0, o.1, b')) r
 
 -- ---- the doors: what a crate above reads of a block
 

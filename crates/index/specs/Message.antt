@@ -1,6 +1,8 @@
 -- 01, "The message", and its steps, with M-107 for the markers. A message is the list of its bytes.
-use Rattle.std.specs.Prelude.{ℕ, ◌+◌, ◌-◌, ◌*◌, ◌<◌, ◌≤◌, ◌/◌, ◌%◌, ◌^◌, ◌≡◌, Bool, true, false, cond, ◌&&◌, List, [], ◌∷◌, ◌++◌, map, ◌⊎◌, length, get_or, eqb}
+use Rattle.std.specs.Prelude.{ℕ, ◌+◌, ◌-◌, ◌*◌, ◌<◌, ◌≤◌, ◌/◌, ◌%◌, ◌^◌, ◌≡◌, Bool, true, false, cond, ◌&&◌, List, [], ◌∷◌, ◌++◌, map, ◌⊎◌, length, get_or, eqb, Result, Ok, Err}
 use Rattle.index.specs.declared.Kind.{Kind}
+use Rattle.index.specs.declared.refusals.Refusal.{Refusal}
+use Rattle.index.specs.declared.refusals.Refusal.TheVariants.{Form}
 use Rattle.index.specs.declared.Kind.TheVariants.{Membership, Permission, Filter}
 use Rattle.index.specs.Letters.{letter_count, may_have, In}
 use Rattle.index.specs.Numbers.{First}
@@ -12,6 +14,11 @@ IsKind n = (1 ≤ n) × (n ≤ 3)
 
 unfoldable pub kind_of : ℕ → Kind
 kind_of n = cond (eqb n 1) Membership (cond (eqb n 2) Permission Filter)
+
+-- What a number is read as: the kind that it stands for, or the refusal 3.
+unfoldable pub KindFrom : ℕ → Result Kind Refusal → Type 0
+KindFrom n (Ok kind) = IsKind n × (kind ≡ kind_of n)
+KindFrom n (Err e) = (IsKind n → ⊥) × (e ≡ Form)
 
 unfoldable pub kind_number : Kind → ℕ
 kind_number Membership = 1

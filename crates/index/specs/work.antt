@@ -2,6 +2,7 @@
 pub mod Places
 pub mod Checks
 pub mod Bytes
+pub mod Halves
 pub mod Edits
 pub mod Pairing
 pub mod Sights

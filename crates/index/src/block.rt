@@ -2,10 +2,13 @@
 
 pub(crate) mod checks;
 pub(crate) mod doors;
+pub(crate) mod good;
+pub(crate) mod headed;
 pub(crate) mod kinds;
 pub(crate) mod letters;
 pub(crate) mod making;
 pub(crate) mod moves;
 pub(crate) mod numbers;
 pub(crate) mod places;
+pub(crate) mod record;
 pub(crate) mod records;

@@ -4,18 +4,21 @@
 
 mod block;
 mod messages;
+mod refusals;
 mod text;
 
-pub use crate::block::checks::tested;
+pub use crate::block::checks::{good_block, tested};
 pub use crate::block::doors::{
     capitals_of, count_of, counts_x, denials_of, id_of, key_of, marks_of, net_of, pair_of, size_of,
 };
+pub use crate::block::good::GoodBlock;
 pub use crate::block::kinds::kind_of;
 pub use crate::block::making::make;
 pub use crate::messages::lists::carry_out;
 pub use crate::messages::plain::message;
 pub use crate::messages::run::pack;
 pub use crate::messages::wide::wide;
+pub use crate::refusals::{ReadError, Refusal};
 pub use crate::text::sets::{read_set, write_set};
 
 // How many bytes the header has, and a record.
@@ -67,19 +70,4 @@ pub enum Kind {
     Membership,
     Permission,
     Filter,
-}
-
-// What came of writing a set: its text, so many bytes long, or the number of the refusal.
-#[derive(Clone, Copy)]
-pub enum Wrote {
-    Text(usize),
-    Refused(u8),
-}
-
-// What came of reading a set: so many records; or a text of no set, and its place; or the number of another refusal.
-#[derive(Clone, Copy)]
-pub enum Took {
-    Set(usize),
-    Wrong(usize),
-    Refused(u8),
 }

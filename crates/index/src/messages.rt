@@ -11,4 +11,5 @@ pub(crate) mod names;
 pub(crate) mod pairs;
 pub(crate) mod plain;
 pub(crate) mod run;
+pub(crate) mod sending;
 pub(crate) mod wide;

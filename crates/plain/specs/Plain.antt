@@ -1,9 +1,9 @@
 -- M-111, "A plain second engine". All quotations are from there.
-use Rattle.std.specs.Prelude.{ℕ, ◌≤◌, ◌≡◌, List}
+use Rattle.std.specs.Prelude.{ℕ, ◌≤◌, ◌≡◌, List, Result}
 use Rattle.index.specs.declared.Kind.TheVariants.{Membership}
 use Rattle.index.specs.Numbers.{First}
 use Rattle.index.specs.Block.{size}
-use Rattle.rights.specs.declared.Given.{Given}
+use Rattle.index.specs.declared.refusals.Refusal.{Refusal}
 use Rattle.rights.specs.Questions.{GivenMeans}
 use Rattle.rights.specs.HeldTo.{limit_needs, HeldWithin, AsksTo}
 
@@ -24,13 +24,13 @@ unfoldable pub Within : List ℕ → ℕ → ℕ → ℕ → ℕ → (ℕ × ℕ
 Within b u o request limit a =
     First (λ n. (n, 0)) (limit_needs b u o request (Small b limit)) (HeldWithin limit b u o request) a
 
--- What each case of an answer stands for.
-unfoldable pub AsksWithin : List ℕ → ℕ → ℕ → ℕ → ℕ → Given → Type 0
+-- What an answer of the code stands for.
+unfoldable pub AsksWithin : List ℕ → ℕ → ℕ → ℕ → ℕ → Result ℕ Refusal → Type 0
 AsksWithin b u o request limit r = GivenMeans (Within b u o request limit) r
 
 -- "proved equal to the main walk held to that limit": on every block, user, object and request, where 14 is not due of the plain engine, what it
 -- promises to answer and what `rights_to` promises are the same answer, a refusal too.
 abbrev pub EnginesAgree : Type 0
 EnginesAgree =
-    (b : List ℕ) (u o request limit : ℕ) (r s : Given) → limit ≤ greatest_limit → size b Membership ≤ most_records
+    (b : List ℕ) (u o request limit : ℕ) (r s : Result ℕ Refusal) → limit ≤ greatest_limit → size b Membership ≤ most_records
     → AsksWithin b u o request limit r → AsksTo b u o request limit s → r ≡ s

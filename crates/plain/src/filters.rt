@@ -1,9 +1,7 @@
 // What the filters let through. No chain has a part in it, and so no limit.
 
-ghost use Rattle.std.specs.Prelude.{◌<◌};
-ghost use Rattle.index.specs.Letters.{right_count};
 ghost use Rattle.index.specs.declared.Kind.TheVariants.{Membership};
-ghost use Rattle.index.specs.Block.{Sized, Good, Of};
+ghost use Rattle.index.specs.Block.{Of};
 ghost use Rattle.index.specs.work.Checks.{Says};
 ghost use Rattle.rights.specs.Groups.{Member};
 ghost use Rattle.rights.specs.Held.{Looked, Passes};
@@ -11,25 +9,25 @@ ghost use Rattle.plain.specs.work.Steps.{NamesAt};
 
 use crate::reaching::{Link, leads};
 use crate::records::has_right;
-use index::Kind;
+use crate::right::Right;
+use index::{GoodBlock, Kind};
 
 // Does M record i name the group for the object? The object is its key, it is a membership, and the group is its id.
-fn names(block: &[u8], object: u16, group: u16, i: u16) -> bool
-    requires { Good block.now × Of block.now Membership i }
-    ensures { Says (NamesAt block.now object group i) result }
+fn names(block: GoodBlock<'_>, object: u16, group: u16, i: u16) -> bool
+    requires { Of block.bytes.now Membership i }
+    ensures { Says (NamesAt block.entry.bytes.now object group i) result }
 {
-    if index::id_of(block, i) != group {
+    if index::id_of(block.bytes, i) != group {
         return false;
     }
     leads(block, Link::Member, object, i)
 }
 
 // Do the object's M records name the group?
-fn is_in(block: &[u8], object: u16, group: u16) -> bool
-    requires { Good block.now }
-    ensures { Says (Member block.now object group) result }
+fn is_in(block: GoodBlock<'_>, object: u16, group: u16) -> bool
+    ensures { Says (Member block.entry.bytes.now object group) result }
 {
-    let end = index::size_of(block, Kind::Membership);
+    let end = index::size_of(block.bytes, Kind::Membership);
     for i in 0..end {
         if names(block, object, group, i) {
             return true;
@@ -39,9 +37,8 @@ fn is_in(block: &[u8], object: u16, group: u16) -> bool
 }
 
 // Are the F records of the name looked at for the object? It is the object, or a group that its M records name.
-fn is_looked_at(block: &[u8], object: u16, name: u16) -> bool
-    requires { Good block.now }
-    ensures { Says (Looked block.now object name) result }
+fn is_looked_at(block: GoodBlock<'_>, object: u16, name: u16) -> bool
+    ensures { Says (Looked block.entry.bytes.now object name) result }
 {
     if name == object {
         return true;
@@ -50,15 +47,15 @@ fn is_looked_at(block: &[u8], object: u16, name: u16) -> bool
 }
 
 // Does every F record that is looked at for the object have the right in its net mask?
-pub(crate) fn passes(block: &[u8], object: u16, right: u8) -> bool
-    requires { Sized block.now × (Good block.now × (right < right_count)) }
-    ensures { Says (Passes block.now object right) result }
+pub(crate) fn passes(block: GoodBlock<'_>, object: u16, right: Right) -> bool
+    ensures { Says (Passes block.entry.bytes.now object right.place) result }
 {
-    let first = index::size_of(block, Kind::Membership) + index::size_of(block, Kind::Permission);
-    let end = first + index::size_of(block, Kind::Filter);
+    let first = index::size_of(block.bytes, Kind::Membership)
+        + index::size_of(block.bytes, Kind::Permission);
+    let end = first + index::size_of(block.bytes, Kind::Filter);
     for i in first..end {
-        if !has_right(block, i, right) {
-            if is_looked_at(block, object, index::key_of(block, i)) {
+        if !has_right(block.bytes, i, right) {
+            if is_looked_at(block, object, index::key_of(block.bytes, i)) {
                 return false;
             }
         }

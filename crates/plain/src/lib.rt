@@ -7,6 +7,7 @@ mod grants;
 mod groups;
 mod reaching;
 mod records;
+mod right;
 
 pub use crate::asking::rights_within;
 

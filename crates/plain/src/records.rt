@@ -1,10 +1,12 @@
 // What one record says.
 
 ghost use Rattle.std.specs.Prelude.{◌<◌, ◌≡◌};
-ghost use Rattle.index.specs.Letters.{right_count, marker_n};
+ghost use Rattle.index.specs.Letters.{marker_n};
 ghost use Rattle.index.specs.Block.{count_at, NetAt};
 ghost use Rattle.index.specs.work.Checks.{Says};
 ghost use Rattle.plain.specs.work.Steps.{MemberAt, ClosesAt};
+
+use crate::right::Right;
 
 // The small letter of a right is so many places on from the capital one.
 const SMALL: u8 = index::RIGHTS as u8;
@@ -22,11 +24,10 @@ fn counts(block: &[u8], i: u16, letter: u8) -> bool
 }
 
 // Is the right in the net mask of record i? It counts the capital letter, and does not count the small one.
-pub(crate) fn has_right(block: &[u8], i: u16, right: u8) -> bool
-    requires { right < right_count }
-    ensures { Says (NetAt block.now i right) result }
+pub(crate) fn has_right(block: &[u8], i: u16, right: Right) -> bool
+    ensures { Says (NetAt block.now i right.place) result }
 {
-    counts(block, i, right) & !counts(block, i, right + SMALL)
+    counts(block, i, right.place) & !counts(block, i, right.place + SMALL)
 }
 
 // Is M record i a membership? It counts one of the eight letters.

@@ -1,9 +1,9 @@
 -- M-111, "A plain second engine": "the main walk held to that limit". All quotations are from there. The limit is of every chain: "marker
 -- chains too". It touches neither the filters nor whether an object is in no group at all. At limit 0 nobody is bound, since a chain to a group
 -- of hers has a record; so a lower limit may show more: a group of hers that lies further off does not bind.
-use Rattle.std.specs.Prelude.{ℕ, ◌≤◌, ◌≡◌, List}
+use Rattle.std.specs.Prelude.{ℕ, ◌≤◌, ◌≡◌, List, Result}
+use Rattle.index.specs.declared.refusals.Refusal.{Refusal}
 use Rattle.index.specs.Numbers.{First}
-use Rattle.rights.specs.declared.Given.{Given}
 use Rattle.rights.specs.declared.Profile.TheVariants.{Ordinary}
 use Rattle.rights.specs.Held.{chain_limit}
 use Rattle.rights.specs.Questions.{last_needs, Limited, GivenMeans}
@@ -23,6 +23,6 @@ unfoldable pub HeldTo : List ℕ → ℕ → ℕ → ℕ → ℕ → (ℕ × ℕ
 HeldTo b u o request limit a =
     First (λ n. (n, 0)) (limit_needs b u o request (limit ≤ chain_limit)) (HeldWithin limit b u o request) a
 
--- What each case of an answer stands for.
-unfoldable pub AsksTo : List ℕ → ℕ → ℕ → ℕ → ℕ → Given → Type 0
+-- What an answer of the code stands for.
+unfoldable pub AsksTo : List ℕ → ℕ → ℕ → ℕ → ℕ → Result ℕ Refusal → Type 0
 AsksTo b u o request limit r = GivenMeans (HeldTo b u o request limit) r

@@ -1,8 +1,8 @@
 -- M-113, "What can't bear on my rights": a name that is "reached from" another "by chains of at most" so many "records, masks disregarded", and the
 -- call that asks whether it is. All quotations are from there, but where another paper is named.
-use Rattle.std.specs.Prelude.{ℕ, ◌≤◌, List, [], ◌∷◌, ◌++◌}
+use Rattle.std.specs.Prelude.{ℕ, ◌≤◌, Bool, List, [], ◌∷◌, ◌++◌, Result}
+use Rattle.index.specs.declared.refusals.Refusal.{Refusal}
 use Rattle.index.specs.Numbers.{First}
-use Rattle.rights.specs.declared.Answer.{Answer}
 use Rattle.rights.specs.Chain.{Chain}
 use Rattle.rights.specs.Groups.{Member}
 use Rattle.rights.specs.Held.{chain_limit}
@@ -22,6 +22,6 @@ near_needs b x z limit = through_needs b x z ++ ((14, limit ≤ chain_limit) ∷
 unfoldable pub IsNear : List ℕ → ℕ → ℕ → ℕ → (ℕ × ℕ) → Type 0
 IsNear b x z limit a = First (λ n. (n, 0)) (near_needs b x z limit) (YesWhen (Near limit b x z)) a
 
--- What each case of an answer stands for.
-unfoldable pub AsksNear : List ℕ → ℕ → ℕ → ℕ → Answer → Type 0
+-- What an answer of the code stands for.
+unfoldable pub AsksNear : List ℕ → ℕ → ℕ → ℕ → Result Bool Refusal → Type 0
 AsksNear b x z limit r = AnswerMeans (IsNear b x z limit) r

@@ -1,17 +1,13 @@
 -- 01, "The rights": the two questions, and the numbers they give; M-112 for the profile, M-109 for the records examined, M-106 for a directory.
-use Rattle.std.specs.Prelude.{ℕ, ◌<◌, ◌≤◌, ◌≡◌, List, [], ◌∷◌, ◌++◌, ◌↔◌}
+use Rattle.std.specs.Prelude.{ℕ, ◌<◌, ◌≤◌, ◌≡◌, Bool, List, [], ◌∷◌, ◌++◌, ◌↔◌, Result}
 use Rattle.index.specs.Letters.{right_count, all_rights, In, Mask}
-use Rattle.index.specs.Numbers.{First}
+use Rattle.index.specs.declared.refusals.Refusal.{Refusal}
+use Rattle.index.specs.Numbers.{First, number, Means, yes_no}
 use Rattle.index.specs.Block.{IsName}
 use Rattle.index.specs.Calls.{block_needs}
 use Rattle.directory.specs.By.{By}
-use Rattle.rights.specs.declared.Rights.{Rights}
-use Rattle.rights.specs.declared.Rights.TheVariants as rights
-use Rattle.rights.specs.declared.Answer.{Answer}
-use Rattle.rights.specs.declared.Answer.TheVariants as answer
+use Rattle.rights.specs.declared.grants.Reach.{Reach}
 use Rattle.rights.specs.declared.Profile.{Profile}
-use Rattle.rights.specs.declared.Given.{Given}
-use Rattle.rights.specs.declared.Given.TheVariants as given
 use Rattle.rights.specs.Held.{chain_limit}
 use Rattle.rights.specs.Profiles.{HoldsIn, IsProfile, profile_of}
 use Rattle.rights.specs.Examined.{Examined, round_count}
@@ -74,29 +70,29 @@ FullBy b d u o request profile a = By b d unreported (Full b u o request profile
 unfoldable pub ShortBy : List ℕ → List ℕ → ℕ → ℕ → ℕ → ℕ → (ℕ × ℕ) → Type 0
 ShortBy b d u o request profile a = By b d (λ n. (n, 0)) (Short b u o request profile) a
 
--- ---- what each case of an answer stands for: 01's number, and its values, which are an outcome of the call
+-- ---- what an answer of the code stands for: 01's number, and its values, which are an outcome of the call
 
-abbrev pub RightsMean : (ℕ × ℕ × ℕ × ℕ → Type 0) → Rights → Type 0
-RightsMean Outcome (rights.Held mask user object) = Outcome (0, mask, user, object)
-RightsMean Outcome (rights.Refused n) = (0 < n) × Outcome (unreported n)
+-- The rights, and the numbers of records examined on the user's side and on the object's.
+abbrev pub reach_value : Reach → ℕ × ℕ × ℕ
+reach_value reach = (reach.rights, reach.user, reach.object)
 
-abbrev pub AnswerMeans : (ℕ × ℕ → Type 0) → Answer → Type 0
-AnswerMeans Outcome answer.Yes = Outcome (0, 1)
-AnswerMeans Outcome answer.No = Outcome (0, 0)
-AnswerMeans Outcome (answer.Refused n) = (0 < n) × Outcome (n, 0)
+abbrev pub RightsMean : (ℕ × ℕ × ℕ × ℕ → Type 0) → Result Reach Refusal → Type 0
+RightsMean Outcome r = Means reach_value (0, 0, 0) (λ o. Outcome (o.0, o.1.0, o.1.1, o.1.2)) r
 
-abbrev pub GivenMeans : (ℕ × ℕ → Type 0) → Given → Type 0
-GivenMeans Outcome (given.Mask mask) = Outcome (0, mask)
-GivenMeans Outcome (given.Refused n) = (0 < n) × Outcome (n, 0)
+abbrev pub AnswerMeans : (ℕ × ℕ → Type 0) → Result Bool Refusal → Type 0
+AnswerMeans Outcome r = Means yes_no 0 Outcome r
 
-unfoldable pub Asks : List ℕ → ℕ → ℕ → ℕ → ℕ → Rights → Type 0
+abbrev pub GivenMeans : (ℕ × ℕ → Type 0) → Result ℕ Refusal → Type 0
+GivenMeans Outcome r = Means (λ mask. mask) 0 Outcome r
+
+unfoldable pub Asks : List ℕ → ℕ → ℕ → ℕ → ℕ → Result Reach Refusal → Type 0
 Asks b u o request profile r = RightsMean (Full b u o request profile) r
 
-unfoldable pub AsksBy : List ℕ → List ℕ → ℕ → ℕ → ℕ → ℕ → Rights → Type 0
+unfoldable pub AsksBy : List ℕ → List ℕ → ℕ → ℕ → ℕ → ℕ → Result Reach Refusal → Type 0
 AsksBy b d u o request profile r = RightsMean (FullBy b d u o request profile) r
 
-unfoldable pub AsksAll : List ℕ → ℕ → ℕ → ℕ → ℕ → Answer → Type 0
+unfoldable pub AsksAll : List ℕ → ℕ → ℕ → ℕ → ℕ → Result Bool Refusal → Type 0
 AsksAll b u o request profile r = AnswerMeans (Short b u o request profile) r
 
-unfoldable pub AsksAllBy : List ℕ → List ℕ → ℕ → ℕ → ℕ → ℕ → Answer → Type 0
+unfoldable pub AsksAllBy : List ℕ → List ℕ → ℕ → ℕ → ℕ → ℕ → Result Bool Refusal → Type 0
 AsksAllBy b d u o request profile r = AnswerMeans (ShortBy b d u o request profile) r

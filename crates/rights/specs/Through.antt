@@ -1,11 +1,11 @@
 -- What the filters and exclusive groups let through, whatever is granted: M-103's check of a slip asks it. (02 has no such call; a slip's "chains and
 -- grant, with the filters, meet the rules", and M-107: "Slips check this too.")
-use Rattle.std.specs.Prelude.{ℕ, ◌≡◌, List, [], ◌∷◌, ◌++◌}
+use Rattle.std.specs.Prelude.{ℕ, ◌≡◌, List, [], ◌∷◌, ◌++◌, Result}
+use Rattle.index.specs.declared.refusals.Refusal.{Refusal}
 use Rattle.index.specs.Letters.{Mask}
 use Rattle.index.specs.Numbers.{First}
 use Rattle.index.specs.Block.{IsName}
 use Rattle.index.specs.Calls.{block_needs}
-use Rattle.rights.specs.declared.Given.{Given}
 use Rattle.rights.specs.Groups.{Open}
 use Rattle.rights.specs.Held.{Passes, chain_limit}
 use Rattle.rights.specs.Questions.{GivenMeans}
@@ -22,6 +22,6 @@ Lets b u o a = (a.0 ≡ 0) × Mask a.1 (λ k. Passes b o k × Open chain_limit b
 unfoldable pub LetsThrough : List ℕ → ℕ → ℕ → (ℕ × ℕ) → Type 0
 LetsThrough b u o a = First (λ n. (n, 0)) (through_needs b u o) (Lets b u o) a
 
--- What each case of an answer stands for.
-unfoldable pub ThroughAnswers : List ℕ → ℕ → ℕ → Given → Type 0
+-- What an answer of the code stands for.
+unfoldable pub ThroughAnswers : List ℕ → ℕ → ℕ → Result ℕ Refusal → Type 0
 ThroughAnswers b u o r = GivenMeans (LetsThrough b u o) r

@@ -2,30 +2,26 @@
 
 ghost use Rattle.rights.specs.HeldTo.{AsksTo};
 
-use crate::questions::{ask_refusal, within};
-use crate::{Given, LAST_LIMIT, Profile};
+use crate::LAST_LIMIT;
+use crate::questions::{ORDINARY, question, within};
+use crate::source::alone;
+use index::Refusal;
 
 // The rights that the user holds on the object, with chains of at most `limit` records, limited to those requested: the full question's, if
 // the limit is 32.
-pub fn rights_to(block: &[u8], user: u64, object: u64, request: u64, limit: u64) -> Given
+pub fn rights_to(
+    block: &[u8],
+    user: u64,
+    object: u64,
+    request: u64,
+    limit: u64,
+) -> Result<u8, Refusal>
     ensures { AsksTo block.now user object request limit result }
 {
-    let number = ask_refusal(block, user, object, request);
-    if number != 0 {
-        return Given::Refused(number);
-    }
+    let source = alone(block)?;
+    let question = question(user, object, request, ORDINARY)?;
     if limit > LAST_LIMIT {
-        return Given::Refused(14);
+        return Err(Refusal::TooLarge);
     }
-    let none = [0u16; 0];
-    let reach = within(
-        block,
-        &none,
-        user as usize,
-        object as usize,
-        request as u8,
-        Profile::Ordinary,
-        limit as usize,
-    );
-    Given::Mask(reach.rights)
+    Ok(within(&source, question, limit as usize).rights)
 }

@@ -5,10 +5,8 @@ pub mod Parts
 -- The check.
 pub mod Checking
 -- The walk of one side, and the names on the way to a name.
-pub mod Beginning
 pub mod Listing
 pub mod Walking
-pub mod Tracing
 -- The granting record.
 pub mod Objects
 pub mod Nearer

@@ -1,15 +1,14 @@
 -- M-103, "A slip that says why": the check of a slip and the finder, with the numbers they give. All quotations are from there, but where another
 -- request is named.
-use Rattle.std.specs.Prelude.{ℕ, ◌^◌, ◌<◌, ◌≤◌, ◌≡◌, List, [], ◌∷◌, ◌++◌, ◌⊎◌, length, drop}
+use Rattle.std.specs.Prelude.{ℕ, ◌^◌, ◌<◌, ◌≤◌, ◌≡◌, Bool, List, [], ◌∷◌, ◌++◌, ◌⊎◌, length, drop, Option, Some, None, Result, Ok, Err}
 use Rattle.index.specs.Letters.{right_count}
-use Rattle.index.specs.Numbers.{First, Each}
+use Rattle.index.specs.declared.refusals.Refusal.{Refusal}
+use Rattle.index.specs.Numbers.{First, Each, number}
 use Rattle.index.specs.Block.{IsName}
-use Rattle.rights.specs.declared.Answer.{Answer}
 use Rattle.rights.specs.Held.{Holds, chain_limit}
 use Rattle.rights.specs.Questions.{YesWhen, AnswerMeans}
 use Rattle.rights.specs.Through.{through_needs}
-use Rattle.slips.specs.declared.Sought.{Sought}
-use Rattle.slips.specs.declared.Sought.TheVariants as sought
+use Rattle.slips.specs.declared.Slip.{Slip as Counts}
 use Rattle.slips.specs.Slip.{most_names, Slip, Shortest}
 
 -- "exactly one right is named": the mask is that of right k, and P holds for it.
@@ -69,13 +68,16 @@ FindsSlip b u o right us os a =
 
 -- ---- what each case of an answer stands for: the number, and its values, which are an outcome of the call
 
-abbrev pub SoughtMeans : (ℕ → ℕ → ℕ → Type 0) → Sought → Type 0
-SoughtMeans Gives (sought.Slip n m) = (0 < n) × Gives 0 n m
-SoughtMeans Gives sought.None = Gives 0 0 0
-SoughtMeans Gives (sought.Refused n) = (0 < n) × Gives n 0 0
+abbrev pub SlipMeans : (ℕ → ℕ → Type 0) → Option Counts → Type 0
+SlipMeans Gives (Some slip) = (0 < slip.users) × Gives slip.users slip.objects
+SlipMeans Gives None = Gives 0 0
 
-unfoldable pub FindAnswers : List ℕ → ℕ → ℕ → ℕ → List ℕ → List ℕ → Sought → List ℕ → List ℕ → Type 0
+abbrev pub SoughtMeans : (ℕ → ℕ → ℕ → Type 0) → Result (Option Counts) Refusal → Type 0
+SoughtMeans Gives (Ok slip) = SlipMeans (Gives 0) slip
+SoughtMeans Gives (Err e) = Gives (number e) 0 0
+
+unfoldable pub FindAnswers : List ℕ → ℕ → ℕ → ℕ → List ℕ → List ℕ → Result (Option Counts) Refusal → List ℕ → List ℕ → Type 0
 FindAnswers b u o right us os r us' os' = SoughtMeans (λ n x y. FindsSlip b u o right us os (n, x, y, us', os')) r
 
-unfoldable pub CheckAnswers : List ℕ → ℕ → ℕ → ℕ → List ℕ → List ℕ → Answer → Type 0
+unfoldable pub CheckAnswers : List ℕ → ℕ → ℕ → ℕ → List ℕ → List ℕ → Result Bool Refusal → Type 0
 CheckAnswers b u o right us os r = AnswerMeans (ChecksSlip b u o right us os) r

@@ -1,30 +1,21 @@
 // The finder of a slip.
 
-ghost use Rattle.std.specs.Prelude.{◌≡◌, ◌⊎◌, ◌+◌, ◌^◌, ◌<◌, ◌≤◌, length};
-ghost use Rattle.index.specs.Letters.{right_count, Mask};
+ghost use Rattle.std.specs.Prelude.{◌≡◌, ◌⊎◌, ◌+◌, ◌^◌, ◌≤◌, length};
 ghost use Rattle.index.specs.declared.Kind.TheVariants.{Permission};
-ghost use Rattle.index.specs.Block.{Sized, Good, IsName, Of};
+ghost use Rattle.index.specs.Block.{IsName, Of};
 ghost use Rattle.rights.specs.Groups.{Open};
 ghost use Rattle.rights.specs.Held.{Passes, chain_limit};
-ghost use Rattle.rights.proofs.laws.questions.Letting.{Named};
 ghost use Rattle.slips.specs.Slip.{most_names};
-ghost use Rattle.slips.specs.Calls.{Found, NoneFound, SoughtMeans, FindAnswers};
+ghost use Rattle.slips.specs.Calls.{Found, NoneFound, SlipMeans, FindAnswers};
 ghost use Rattle.slips.specs.work.Trails.{Short, at_object, Nearest, Granted, Backs, ObjectTraced};
 
-use crate::Sought;
+use crate::Slip;
 use crate::records::has_right;
+use crate::right::Right;
 use crate::starts::{NONE, note_starts};
-use crate::testing::{find_refusal, right_of};
-use crate::trails::{FAR, trace, walk};
-use index::{Kind, NAMES, PAIR};
-use rights::Given;
-
-// The P record that a slip's chains end at, or that there is none.
-#[derive(Clone, Copy)]
-pub enum Grant {
-    At(usize),
-    Nowhere,
-}
+use crate::testing::{places_tested, right_of};
+use crate::trails::{FAR, Trail};
+use index::{GoodBlock, Kind, NAMES, PAIR, Refusal};
 
 // The steps to a name of the object's side: name 0 is there by itself.
 fn steps_to(objects: &[u8; NAMES], g: usize) -> u8
@@ -44,123 +35,94 @@ pub struct Best {
     pub at: usize,
 }
 
-// P record i beside the best before it: it is better if it grants right k with fewer steps to its two names.
+// P record i beside the best before it: it is better if it grants the right with fewer steps to its two names.
 fn better(
-    block: &[u8],
-    k: u8,
+    block: GoodBlock<'_>,
+    right: Right,
     users: &[u8; NAMES],
     objects: &[u8; NAMES],
     best: Best,
     i: usize,
 ) -> Best
-    requires sized { Sized block.now × (Good block.now × ((k < right_count) × (Short users.now × (Short objects.now × Of block.now Permission i)))) }
-    requires nearest { Nearest block.now k users.now objects.now i best }
-    ensures { Nearest block.now k users.now objects.now (i + 1) result }
+    requires of { Short users.now × (Short objects.now × Of block.bytes.now Permission i) }
+    requires nearest { Nearest block.bytes.now right.place users.now objects.now i best }
+    ensures { Nearest block.entry.bytes.now right.place users.now objects.now (i + 1) result }
 {
-    let pair = index::pair_of(block, i);
+    let pair = index::pair_of(block.bytes, i);
     let steps = users[pair / PAIR] + steps_to(objects, pair % PAIR);
     if steps >= best.steps {
         return best;
     }
-    if !has_right(block, i, k) {
+    if !has_right(block, i, right) {
         return best;
     }
     Best { steps, at: i }
 }
 
-// Of the P records that grant right k and whose names are reached on both sides, the one with the fewest steps.
-fn nearest(block: &[u8], k: u8, users: &[u8; NAMES], objects: &[u8; NAMES]) -> Grant
-    requires { Sized block.now × (Good block.now × ((k < right_count) × (Short users.now × Short objects.now))) }
-    ensures { Granted block.now k users.now objects.now result }
+// Of the P records that grant the right and whose names are reached on both sides, the one with the fewest steps.
+fn nearest(
+    block: GoodBlock<'_>,
+    right: Right,
+    users: &[u8; NAMES],
+    objects: &[u8; NAMES],
+) -> Option<usize>
+    requires { Short users.now × Short objects.now }
+    ensures { Granted block.entry.bytes.now right.place users.now objects.now result }
 {
-    let part = directory::part_of(block, Kind::Permission);
+    let part = directory::part_of(block.bytes, Kind::Permission);
     let mut best = Best { steps: FAR, at: 0 };
     for i in part.from..part.end {
-        best = better(block, k, users, objects, best, i);
+        best = better(block, right, users, objects, best, i);
     }
     if best.steps < FAR {
-        return Grant::At(best.at);
+        return Some(best.at);
     }
-    Grant::Nowhere
+    None
 }
 
 // The names of the object's side are written: those on the chain to a name that is reached, or 0 by itself. The result is how many they are.
-fn trace_object(steps: &[u8; NAMES], before: &[u16; NAMES], g: usize, names: &mut [u16]) -> u8
-    requires { Backs steps.now before.now × (IsName g × ((at_object steps.now g ≤ chain_limit) × (most_names ≤ length names.old))) }
-    ensures { ObjectTraced steps.now before.now g names.old names.new × (result ≡ at_object steps.now g + 1) }
+fn trace_object(trail: &Trail, g: usize, names: &mut [u16]) -> u8
+    requires { Backs trail.now.steps trail.now.before × (IsName g × ((at_object trail.now.steps g ≤ chain_limit) × (most_names ≤ length names.old))) }
+    ensures { ObjectTraced trail.now.steps trail.now.before g names.old names.new × (result ≡ at_object trail.now.steps g + 1) }
 {
     if g == 0 {
         names[0] = 0;
         return 1;
     }
-    trace(steps, before, g, names)
+    trail.trace(g, names)
 }
 
 // A slip for a right that the filters and exclusive groups let through.
 fn sought(
-    block: &[u8],
+    block: GoodBlock<'_>,
     user: usize,
     object: usize,
-    k: u8,
+    right: Right,
     users: &mut [u16],
     objects: &mut [u16],
-) -> Sought
-    requires named { Named block.now user object × ((k < right_count) × (Passes block.now object k × Open chain_limit block.now user object)) }
+) -> Option<Slip>
+    requires passes { IsName user × (IsName object × (Passes block.bytes.now object right.place × Open chain_limit block.bytes.now user object)) }
     requires most_names_in_bounds { (most_names ≤ length users.old) × (most_names ≤ length objects.old) }
-    ensures { SoughtMeans (λ n x y. Found block.now user object (2 ^ k) users.old objects.old (n, x, y, users.new, objects.new) ⊎ NoneFound block.now user object (2 ^ k) users.old objects.old (n, x, y, users.new, objects.new)) result }
+    ensures { SlipMeans (λ x y. Found block.entry.bytes.now user object (2 ^ right.place) users.old objects.old (0, x, y, users.new, objects.new) ⊎ NoneFound block.entry.bytes.now user object (2 ^ right.place) users.old objects.old (0, x, y, users.new, objects.new)) result }
 {
     let mut firsts = [NONE; NAMES];
     note_starts(block, &mut firsts);
-    let mut user_steps = [FAR; NAMES];
-    let mut user_before = [0u16; NAMES];
-    walk(block, k, user, &firsts, &mut user_steps, &mut user_before);
-    let mut object_steps = [FAR; NAMES];
-    let mut object_before = [0u16; NAMES];
-    walk(
-        block,
-        k,
-        object,
-        &firsts,
-        &mut object_steps,
-        &mut object_before,
-    );
-    let Grant::At(i) = nearest(block, k, &user_steps, &object_steps) else {
-        return Sought::None;
+    let mut user_trail = Trail {
+        steps: [FAR; NAMES],
+        before: [0; NAMES],
     };
-    let pair = index::pair_of(block, i);
-    let n = trace(&user_steps, &user_before, pair / PAIR, users);
-    let m = trace_object(&object_steps, &object_before, pair % PAIR, objects);
-    Sought::Slip(n, m)
-}
-
-// The finder after the tests of the block, the user and the object. `mask` is what the filters and exclusive groups let through.
-fn found(
-    block: &[u8],
-    user: u64,
-    object: u64,
-    right: u64,
-    mask: u8,
-    users: &mut [u16],
-    objects: &mut [u16],
-) -> Sought
-    requires { Named block.now user object × Mask mask (λ k. Passes block.now object k × Open chain_limit block.now user object) }
-    ensures { FindAnswers block.now user object right users.old objects.old result users.new objects.new }
-{
-    let number = find_refusal(right, users.len(), objects.len());
-    if number != 0 {
-        return Sought::Refused(number);
-    }
-    if mask & (right as u8) == 0 {
-        return Sought::None;
-    }
-    sought(
-        block,
-        user as usize,
-        object as usize,
-        right_of(right),
-        users,
-        objects,
-    )
+    user_trail.walk(block, right, user, &firsts);
+    let mut object_trail = Trail {
+        steps: [FAR; NAMES],
+        before: [0; NAMES],
+    };
+    object_trail.walk(block, right, object, &firsts);
+    let i = nearest(block, right, &user_trail.steps, &object_trail.steps)?;
+    let pair = index::pair_of(block.bytes, i);
+    Some(Slip {
+        users: user_trail.trace(pair / PAIR, users),
+        objects: trace_object(&object_trail, pair % PAIR, objects),
+    })
 }
 
 // A slip for the user, the object and the right, with the fewest names, if the right is held.
@@ -171,12 +133,17 @@ pub fn find_slip(
     right: u64,
     users: &mut [u16],
     objects: &mut [u16],
-) -> Sought
+) -> Result<Option<Slip>, Refusal>
     ensures { FindAnswers block.now user object right users.old objects.old result users.new objects.new }
 {
-    let through = rights::let_through(block, user, object);
-    match through {
-        Given::Refused(number) => Sought::Refused(number),
-        Given::Mask(mask) => found(block, user, object, right, mask, users, objects),
+    let mask = rights::let_through(block, user, object)?;
+    let Some(named) = right_of(right) else {
+        return Err(Refusal::Mask);
+    };
+    places_tested(users.len(), objects.len())?;
+    if mask & (right as u8) == 0 {
+        return Ok(None);
     }
+    let block = GoodBlock { bytes: block };
+    Ok(sought(block, user as usize, object as usize, named, users, objects))
 }

@@ -4,6 +4,7 @@
 mod checking;
 mod finding;
 mod records;
+mod right;
 mod starts;
 mod testing;
 mod trails;
@@ -14,10 +15,9 @@ pub use crate::finding::find_slip;
 // A chain has at most so many names: one more than it has records.
 pub const CHAIN: usize = rights::LIMIT + 1;
 
-// What came of looking for a slip: so many names on the user's chain and on the object's; none; or the number of the refusal.
+// A slip that is found: how many names are on the user's chain, and on the object's.
 #[derive(Clone, Copy)]
-pub enum Sought {
-    Slip(u8, u8),
-    None,
-    Refused(u8),
+pub struct Slip {
+    pub users: u8,
+    pub objects: u8,
 }

@@ -2,104 +2,81 @@
 
 ghost use Rattle.std.specs.Prelude.{[], ◌∷◌, ◌≤◌};
 ghost use Rattle.index.specs.Block.{IsName};
-ghost use Rattle.index.specs.Numbers.{Answers, Each};
+ghost use Rattle.index.specs.Numbers.{number_of, Answers, Each};
 ghost use Rattle.index.specs.work.Checks.{Says};
 ghost use Rattle.slips.specs.Slip.{most_names};
-ghost use Rattle.slips.specs.Calls.{OneRight, IsChain};
+ghost use Rattle.slips.specs.Calls.{IsChain};
 ghost use Rattle.slips.specs.work.Tested.{RightOf};
 
 use crate::CHAIN;
+use crate::right::Right;
+use index::Refusal;
 
-// The greatest name, and how many rights there are.
+// The greatest name.
 const LAST_NAME: u16 = index::GREATEST_NAME as u16;
 
-const NO_RIGHT: u8 = index::RIGHTS as u8;
-
-// The right that the mask names alone, or the number of rights where it names none or several.
-pub(crate) fn right_of(mask: u64) -> u8
+// The right that the mask names alone, if it names one.
+pub(crate) fn right_of(mask: u64) -> Option<Right>
     ensures { RightOf mask result }
 {
-    if mask == 1 {
-        return 0;
+    match mask {
+        1 => Some(Right { place: 0 }),
+        2 => Some(Right { place: 1 }),
+        4 => Some(Right { place: 2 }),
+        8 => Some(Right { place: 3 }),
+        _ => None,
     }
-    if mask == 2 {
-        return 1;
-    }
-    if mask == 4 {
-        return 2;
-    }
-    if mask == 8 {
-        return 3;
-    }
-    NO_RIGHT
-}
-
-// The mask names one right.
-fn is_one(mask: u64) -> bool
-    ensures { Says (OneRight mask) result }
-{
-    right_of(mask) < NO_RIGHT
 }
 
 // Each number of the list is a name.
 fn all_names(names: &[u16]) -> bool
     ensures { Says (Each IsName names.now) result }
 {
-    for i in 0..names.len() {
-        if names[i] > LAST_NAME {
-            return false;
-        }
-    }
-    true
+    names.iter().all(|name| *name <= LAST_NAME)
 }
 
 // The list has 1 to 33 names.
 fn is_chain(names: &[u16]) -> bool
     ensures { Says (IsChain names.now) result }
 {
-    if names.len() == 0 {
-        return false;
-    }
-    if names.len() > CHAIN {
-        return false;
-    }
-    true
+    !names.is_empty() && names.len() <= CHAIN
 }
 
-// The number of the first requirement of a check, after those of the block, the user and the object, that does not hold, or 0.
-pub(crate) fn check_refusal(right: u64, users: &[u16], objects: &[u16]) -> u8
-    ensures { Answers ((4, Each IsName users.now × Each IsName objects.now) ∷ (5, OneRight right) ∷ (11, IsChain users.now × IsChain objects.now) ∷ []) result }
+// 4 for a number on the lists that is no name.
+pub(crate) fn names_tested(users: &[u16], objects: &[u16]) -> Result<(), Refusal>
+    ensures { Answers ((4, Each IsName users.now × Each IsName objects.now) ∷ []) (number_of result) }
 {
     if !all_names(users) {
-        return 4;
+        return Err(Refusal::Name);
     }
     if !all_names(objects) {
-        return 4;
+        return Err(Refusal::Name);
     }
-    if !is_one(right) {
-        return 5;
-    }
-    if !is_chain(users) {
-        return 11;
-    }
-    if !is_chain(objects) {
-        return 11;
-    }
-    0
+    Ok(())
 }
 
-// The same of the finder, by how many places the lent lists have.
-pub(crate) fn find_refusal(right: u64, users: usize, objects: usize) -> u8
-    ensures { Answers ((5, OneRight right) ∷ (10, (most_names ≤ users) × (most_names ≤ objects)) ∷ []) result }
+// 11 for a list that has not 1 to 33 names.
+pub(crate) fn chains_tested(users: &[u16], objects: &[u16]) -> Result<(), Refusal>
+    ensures { Answers ((11, IsChain users.now × IsChain objects.now) ∷ []) (number_of result) }
 {
-    if !is_one(right) {
-        return 5;
+    if !is_chain(users) {
+        return Err(Refusal::Chain);
     }
+    if !is_chain(objects) {
+        return Err(Refusal::Chain);
+    }
+    Ok(())
+}
+
+// 10 for a lent list that has fewer than 33 places.
+pub(crate) fn places_tested(users: usize, objects: usize) -> Result<(), Refusal>
+    ensures { Answers ((10, (most_names ≤ users) × (most_names ≤ objects)) ∷ []) (number_of result) }
+{
     if users < CHAIN {
-        return 10;
+        return Err(Refusal::ShortBuffer);
     }
     if objects < CHAIN {
-        return 10;
+        return Err(Refusal::ShortBuffer);
     }
-    0
+    Ok(())
 }

@@ -5,7 +5,8 @@
 ghost use Rattle.std.specs.Prelude.{◌≡◌, ◌++◌, ℕ, ◌+◌, ◌<◌, ◌≤◌, length, take, IfOk, OnOk, OnErr};
 ghost use Rattle.std.specs.Io.KnownBytes.{Consumes, Appends, IsAtEnd};
 ghost use Rattle.index.specs.Block.{IsName, name_count, greatest_length};
-ghost use Rattle.index.specs.Message.{IsKind, kind_of};
+ghost use Rattle.index.specs.Message.{kind_number};
+ghost use Rattle.index.specs.Numbers.{number_of};
 ghost use Rattle.index.specs.Text.{decimal, text_of, set_of};
 ghost use Rattle.index.specs.work.Longest.{longest_text};
 ghost use Rattle.index.specs.work.Written.{Puts};
@@ -14,16 +15,9 @@ ghost use Rattle.standing.specs.Printed.{kind_letter, refusal_line, set_line, se
 ghost use Rattle.standing.specs.Promised.{Front, Taken, Came, Broken, Feeds, LedTo, Halted, Ran};
 ghost use Rattle.standing.specs.work.Room.{Usable, line_room, longest_sets};
 
-use index::{GREATEST, Kind, MESSAGE, MOST_LETTERS, NAMES, ROOM, Wrote};
+use index::{GREATEST, Kind, MESSAGE, MOST_LETTERS, NAMES, ROOM, Refusal};
 use std::io;
 use std::io::{Read, Write};
-
-// The kinds.
-const MEMBERSHIP: u64 = 1;
-
-const PERMISSION: u64 = 2;
-
-const FILTER: u64 = 3;
 
 // Messages are counted to this number.
 const LAST: u64 = 18446744073709551615;
@@ -62,12 +56,9 @@ fn put_bytes(out: &mut [u8], at: usize, bytes: &[u8]) -> usize
     requires { at + length bytes.now ≤ length out.old }
     ensures { Puts at bytes.now out.old result out.new }
 {
-    let mut i = 0;
-    while i < bytes.len() {
-        out[at + i] = bytes[i];
-        i += 1;
-    }
-    at + bytes.len()
+    let end = at + bytes.len();
+    out[at..end].copy_from_slice(bytes);
+    end
 }
 
 // The bytes, and n after them.
@@ -81,16 +72,16 @@ fn put_numbered(out: &mut [u8], at: usize, bytes: &[u8], n: u64) -> usize
 
 // ---- messages
 
-// Writes the line of message n, refused with r, and says how long it is; nothing where r is 0.
-fn put_refusal(out: &mut [u8], n: u64, r: u8) -> usize
+// Writes the line of message n, if it was refused, and says how long it is.
+fn put_refusal(out: &mut [u8], n: u64, answer: Result<(), Refusal>) -> usize
     requires { line_room ≤ length out.old }
-    ensures { Front (refusal_line n r) out.new result }
+    ensures { Front (refusal_line n (number_of answer)) out.new result }
 {
-    if r == 0 {
+    let Err(refusal) = answer else {
         return 0;
-    }
+    };
     let number = put_numbered(out, 0, b"message ", n);
-    let end = put_numbered(out, number, b" refused ", r as u64);
+    let end = put_numbered(out, number, b" refused ", refusal.number() as u64);
     put_bytes(out, end, b"\n")
 }
 
@@ -99,8 +90,7 @@ fn take_in(block: &mut [u8], message: &[u8], n: u64, line: &mut [u8]) -> usize
     requires { Usable block.old × (line_room ≤ length line.old) }
     ensures { Taken block.old n message.now line.new result block.new }
 {
-    let r = index::message(block, message);
-    put_refusal(line, n, r)
+    put_refusal(line, n, index::message(block, message))
 }
 
 // ---- input
@@ -179,10 +169,10 @@ fn feed<R: Read, W: Write>(input: &mut R, output: &mut W, block: &mut [u8]) -> i
 // ---- sets
 
 // The letter of a kind.
-fn letter_of(kind: u64) -> u8
-    ensures { result ≡ kind_letter (kind_of kind) }
+#[tactic(auto, unfolding(crate::specs::Printed::kind_letter))]
+fn letter_of(kind: Kind) -> u8
+    ensures { result ≡ kind_letter kind }
 {
-    let kind = index::kind_of(kind);
     match kind {
         Kind::Membership => b'M',
         Kind::Permission => b'P',
@@ -191,9 +181,9 @@ fn letter_of(kind: u64) -> u8
 }
 
 // The line of a set that is not empty, from its text.
-fn put_line(out: &mut [u8], at: usize, kind: u64, key: u64, text: &[u8]) -> usize
-    requires { at + length (line_with (kind_of kind) key text.now) ≤ length out.old }
-    ensures { Puts at (line_with (kind_of kind) key text.now) out.old result out.new }
+fn put_line(out: &mut [u8], at: usize, kind: Kind, key: u64, text: &[u8]) -> usize
+    requires { at + length (line_with kind key text.now) ≤ length out.old }
+    ensures { Puts at (line_with kind key text.now) out.old result out.new }
 {
     let letter = [letter_of(kind)];
     let number = put_numbered(out, at, &letter, key);
@@ -203,21 +193,21 @@ fn put_line(out: &mut [u8], at: usize, kind: u64, key: u64, text: &[u8]) -> usiz
 }
 
 // Writes the text of a set, and says how long it is.
-fn put_text(block: &[u8], kind: u64, key: u64, text: &mut [u8]) -> usize
-    requires { Usable block.now × IsKind kind × IsName key × (longest_text ≤ length text.old) }
-    ensures { Front (text_of (set_of block.now (kind_of kind) key)) text.new result }
+fn put_text(block: &[u8], kind: Kind, key: u64, text: &mut [u8]) -> usize
+    requires { Usable block.now × IsName key × (longest_text ≤ length text.old) }
+    ensures { Front (text_of (set_of block.now kind key)) text.new result }
 {
-    let Wrote::Text(n) = index::write_set(block, kind, key, text) else {
+    let Ok(n) = index::write_set(block, kind.number() as u64, key, text) else {
         return 0;
     };
     n
 }
 
 // The line of a set, or nothing where the set is empty. Its text goes into `text` first.
-fn put_set(out: &mut [u8], at: usize, block: &[u8], kind: u64, key: u64, text: &mut [u8]) -> usize
-    requires usable { Usable block.now × IsKind kind × IsName key × (longest_text ≤ length text.old) }
-    requires key_in_bounds { at + length (set_line block.now (kind_of kind) key) ≤ length out.old }
-    ensures { Puts at (set_line block.now (kind_of kind) key) out.old result out.new }
+fn put_set(out: &mut [u8], at: usize, block: &[u8], kind: Kind, key: u64, text: &mut [u8]) -> usize
+    requires usable { Usable block.now × IsName key × (longest_text ≤ length text.old) }
+    requires key_in_bounds { at + length (set_line block.now kind key) ≤ length out.old }
+    ensures { Puts at (set_line block.now kind key) out.old result out.new }
 {
     let long = put_text(block, kind, key, text);
     if long == 0 {
@@ -227,10 +217,10 @@ fn put_set(out: &mut [u8], at: usize, block: &[u8], kind: u64, key: u64, text: &
 }
 
 // The lines of all sets of a kind, keys rising.
-fn put_sets(out: &mut [u8], at: usize, block: &[u8], kind: u64, text: &mut [u8]) -> usize
-    requires usable { Usable block.now × IsKind kind × (longest_text ≤ length text.old) }
-    requires name_count_in_bounds { at + length (set_lines block.now (kind_of kind) 0 name_count) ≤ length out.old }
-    ensures { Puts at (set_lines block.now (kind_of kind) 0 name_count) out.old result out.new }
+fn put_sets(out: &mut [u8], at: usize, block: &[u8], kind: Kind, text: &mut [u8]) -> usize
+    requires usable { Usable block.now × (longest_text ≤ length text.old) }
+    requires name_count_in_bounds { at + length (set_lines block.now kind 0 name_count) ≤ length out.old }
+    ensures { Puts at (set_lines block.now kind 0 name_count) out.old result out.new }
 {
     let mut end = at;
     for key in 0..NAMES as u64 {
@@ -244,9 +234,9 @@ fn put_block(out: &mut [u8], block: &[u8], text: &mut [u8]) -> usize
     requires { Usable block.now × (longest_text ≤ length text.old) × (longest_sets ≤ length out.old) }
     ensures { Front (block_lines block.now) out.new result }
 {
-    let members = put_sets(out, 0, block, MEMBERSHIP, text);
-    let permissions = put_sets(out, members, block, PERMISSION, text);
-    put_sets(out, permissions, block, FILTER, text)
+    let members = put_sets(out, 0, block, Kind::Membership, text);
+    let permissions = put_sets(out, members, block, Kind::Permission, text);
+    put_sets(out, permissions, block, Kind::Filter, text)
 }
 
 // Writes every set out.
@@ -274,7 +264,7 @@ fn run<R: Read, W: Write>(
         (R.remaining input.new, W.contents output.new) block.new out.new) }
     ensures stopped { OnErr result (Halted block.old block.new) }
 {
-    index::make(block);
+    index::make(block).unwrap();
     feed(input, output, block)?;
     show(output, block, text, out)
 }

@@ -13,9 +13,8 @@ use Rattle.index.specs.Block.{number, count_at, count_from, count, room}
 use Rattle.index.specs.Message.{kind_number, changes, moves, taken, added, own_count}
 use Rattle.index.proofs.laws.Answer.{yes_is, no_is}
 use Rattle.index.proofs.laws.message.MessageTest.{none_left, through_test, last_of}
-use Rattle.calendar.specs.declared.Date.{Date}
-use Rattle.calendar.specs.Dates.{date, leap_day, months, month_days, sum, years_days, IsDate, day_number}
-use Rattle.calendar.specs.Terms.{in_month, anniversary, IsTerm, between, stands}
+use Rattle.calendar.specs.Dates.{date, leap_day, months, month_days, sum, years_days, day_number}
+use Rattle.calendar.specs.Terms.{in_month, anniversary, between, stands}
 use Rattle.calendar.specs.Calls.{DayOf, DateOf, AnniversaryOf}
 use Rattle.calendar.proofs.laws.DateTest.{date_test, date_says, term_test, term_says, day_says}
 use Rattle.calendar.proofs.laws.EachWay.{each_way}
@@ -24,8 +23,7 @@ use Rattle.appointments.specs.Moves.{Moved}
 use Rattle.appointments.specs.work.Listed.{sooner}
 use Rattle.appointments.proofs.laws.Moving.{steps}
 use Rattle.appointments.proofs.laws.ListTest.{day_fails, days_fail, next_test}
-use Rattle.tight.specs.Blocks.{block}
-use Rattle.tight.specs.Appointed.{Case, Shows, dates, terms, order, member, without, story, marked, corners, damaged, appointed}
+use Rattle.tight.specs.Appointed.{Case, Shows, dates, terms, member, without, story, marked, corners, damaged, appointed}
 use Rattle.tight.proofs.BlockTest.{block_test}
 use Rattle.tight.proofs.RefusedTest.{stop_test}
 use Rattle.tight.proofs.RightsTest.{rights_test, rights_test_lem}

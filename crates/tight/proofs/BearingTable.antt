@@ -301,8 +301,8 @@ module _ (b : List ℕ) (x z limit : ℕ) where
 
   reached : Named b x z → limit ≤ chain_limit → (t : Bool) → (t ≡ true) ↔ Near limit b x z → IsNear b x z limit (0, cond t 1 0)
   unfolding AsksNear
-  reached named few true right = nearing.says_yes b x z limit named few (right.0 refl)
-  reached named few false right = nearing.says_no b x z limit named few ((not_test false right).0 refl)
+  reached named few true right = nearing.says b x z limit named few true (right.0 refl)
+  reached named few false right = nearing.says b x z limit named few false ((not_test false right).0 refl)
 
   reach_test_lem : (answer : ℕ) → reach_test answer ≡ true → IsNear b x z limit (0, answer)
   reach_test_lem answer e =

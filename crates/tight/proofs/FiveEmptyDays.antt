@@ -1,15 +1,14 @@
 -- M-105: the five empty programs, and those that it names, are turned away.
-use Prim.Native.Nat.{ℕ, ◌<◌, ◌≤◌}
+use Prim.Native.Nat.{ℕ, ◌<◌}
 use mathlib.Core.Path.{◌≡◌, refl, sym, ap, subst, ◌∙◌}
-use mathlib.Core.List.{List, [], ◌∷◌, ◌++◌}
+use mathlib.Core.List.{List}
 use native.Mathlib.Omega.{arith}
 use lib.ListN.{get_or}
 use Rattle.index.specs.declared.Kind.TheVariants.{Membership}
 use Rattle.index.specs.Block.{number, count_at, count_from, count}
 use Rattle.index.specs.Message.{kind_number, moves}
 use Rattle.index.specs.Calls.{Makes, Sends}
-use Rattle.index.specs.History.{Labelled, Statement, History, moves_of}
-use Rattle.index.proofs.laws.demands.Unchanged.{sent_unchanged}
+use Rattle.index.specs.History.{Statement, History, moves_of}
 use Rattle.calendar.specs.declared.Date.{Date}
 use Rattle.calendar.specs.Dates.{date, leap_day, months, month_days, sum, years_days, day_number}
 use Rattle.calendar.specs.Terms.{in_month, anniversary, between, stands}
@@ -22,7 +21,7 @@ use Rattle.appointments.specs.Days.{Event, Last, Mixed}
 use Rattle.appointments.proofs.laws.Moving.{move_unchanged}
 use Rattle.appointments.proofs.laws.OneAnswer.{one_moved, one_stands, one_next_change}
 use Rattle.appointments.proofs.laws.SecondHalf.{second_half}
-use Rattle.tight.specs.Appointed.{both, first_one, second_one, thursday, friday, summer, member, without}
+use Rattle.tight.specs.Appointed.{both, first_one, second_one, thursday, friday, member, without}
 use Rattle.tight.specs.DayPrograms.{DayProgram, DayMeets, RefusesEverything, AnswersTheSame, ChangesNothing, OnlyTheFirst, Handed, MakesUpCounts, OnlyAdds, TakesAll, LeavesHalfDone}
 use Rattle.tight.proofs.Programs.{keeps}
 use Rattle.tight.proofs.Appointed.{dates_right, terms_right, story_right, corners_right}

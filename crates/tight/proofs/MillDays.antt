@@ -17,7 +17,7 @@ use Rattle.calendar.specs.Dates.{leap_day, months, month_days, sum, years_days, 
 use Rattle.calendar.specs.Terms.{in_month, anniversary, between, stands}
 use Rattle.appointments.specs.Appointment.{list_size, appointment_at, appointments_from, appointments, stands_on, those, standing}
 use Rattle.appointments.specs.Moves.{Moved}
-use Rattle.appointments.specs.Days.{Event, Last, Starts, standing_then, Mixed, CountsStanding}
+use Rattle.appointments.specs.Days.{Last, Starts, standing_then, Mixed}
 use Rattle.appointments.specs.Days.Event.{message, move}
 use Rattle.appointments.proofs.laws.SecondHalf.{second_half}
 use Rattle.appointments.proofs.laws.NeverSix.{never_six}

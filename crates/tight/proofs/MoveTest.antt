@@ -2,12 +2,12 @@
 use Prim.Native.Nat.{ℕ}
 use mathlib.Core.Path.{◌≡◌, refl}
 use mathlib.Core.Bool.{true, cond}
-use mathlib.Core.List.{List, [], ◌∷◌, ◌++◌}
+use mathlib.Core.List.{List, ◌∷◌}
 use native.Mathlib.Omega.{arith}
 use lib.ListN.{length}
 use Rattle.index.specs.Message.{Carried}
 use Rattle.index.specs.Calls.{block_needs}
-use Rattle.index.proofs.laws.Firsts.{All, passed, first_all}
+use Rattle.index.proofs.laws.Firsts.{passed, first_all}
 use Rattle.index.proofs.laws.message.MessageTest.{none_left, none_left_lem, through_test, through_test_lem, last_of}
 use Rattle.appointments.specs.Appointment.{appointment_length, appointment_at, appointment_needs, day_needs, stands_on}
 use Rattle.appointments.specs.Moves.{move_needs, Moved}

@@ -16,7 +16,7 @@ use Rattle.rights.specs.Through.{through_needs, LetsThrough}
 use Rattle.rights.proofs.laws.questions.Letting.{all_named}
 use Rattle.slips.specs.Slip.{Slip, Shortest}
 use Rattle.slips.specs.Calls.{OneRight, check_needs, ChecksSlip, find_needs, FindsSlip}
-use Rattle.slips.proofs.laws.Rights.{right_none, one_says}
+use Rattle.slips.proofs.laws.Rights.{right_none}
 use Rattle.slips.proofs.laws.tests.SlipTest.{slip_says}
 use Rattle.tight.specs.Blocks.{zeros, nothing, reads}
 use Rattle.tight.specs.EachNumber.{FindGives, CheckGives, LetsGive, find_numbers, check_numbers, lets_numbers}
@@ -65,7 +65,7 @@ past_names us r a = answers_next (through_needs nothing 1 9) us r (all_named not
 
 -- The mask 3 names two rights.
 not_one : OneRight 3 → ⊥
-not_one = one_says (right_none 3 (λ e. omega arith) (λ e. omega arith) (λ e. omega arith) (λ e. omega arith))
+not_one = right_none 3 (λ e. omega arith) (λ e. omega arith) (λ e. omega arith) (λ e. omega arith)
 
 two_rights : FindGives 5 × CheckGives 5
 unfolding find_needs check_needs

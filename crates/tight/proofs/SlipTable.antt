@@ -59,7 +59,7 @@ module _ (k : ℕ) (small : k < right_count) where
   one = (k, small, refl, tt)
 
   for : (P : ℕ → Type 0) → ForRight (2 ^ k) P ↔ P k
-  for P = for_right P (right_is k small) one
+  for P = for_right P (right_is k small)
 
 module _ (b : List ℕ) (u o k : ℕ) (small : k < right_count) where
   -- Of the finder, whatever lists are lent that have the places.

@@ -4,9 +4,9 @@ use Rattle.anaqsiro.proofs.Fits.{next_fits}
 use Rattle.anaqsiro.proofs.Returning.{next_returned}
 use Rattle.anaqsiro.proofs.anaqsiro_next_change.Goals as goal
 
-pub of_next-requires : goal.of_next-requires
-of_next-requires c = next_fits c.args.list.now c.args.day c.next_change.result c.next_change.ensures
+pub returned-requires : goal.returned-requires
+returned-requires c = next_fits c.args.list.now c.args.day c.next_change.result c.next_change.ensures
 
 pub returns : goal.returns
 unfolding NextReturns
-returns c = next_returned c.args.list.now c.args.day c.next_change.result c.next_change.ensures c.of_next.ensures
+returns c = next_returned c.args.list.now c.args.day c.next_change.result c.next_change.ensures c.returned.ensures

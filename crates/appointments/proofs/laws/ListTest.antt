@@ -25,7 +25,7 @@ use Rattle.calendar.proofs.laws.DateTest.{term_test, term_says, day_says}
 use Rattle.appointments.specs.Appointment.{Appointment, appointment_length, most_appointments, list_size, byte_of, appointment_at, ListFormed, InRange, appointment_needs, day_needs}
 use Rattle.appointments.specs.Asking.{Differs, IsFirst, IsNext}
 use Rattle.appointments.specs.work.Listed.{sooner}
-use Rattle.appointments.proofs.laws.NextDay.{AnotherOf, first_none, first_from, first_to, first_over, another_more}
+use Rattle.appointments.proofs.laws.NextDay.{AnotherOf, first_none, first_from, first_to, first_over, another_sooner}
 use Rattle.appointments.proofs.laws.Tested.{marker_two}
 use Rattle.appointments.proofs.laws.Moving.{days_needs}
 
@@ -142,7 +142,7 @@ next_in_lem : (l : List ℕ) (day k : ℕ) → ((i : ℕ) → i < k → IsTerm (
 next_in_lem l day ℕ.zero t = first_none day (λ m d. omega (arith, d.1))
 next_in_lem l day (suc k) t =
     rw (← add-one k)
-    (another_more l k day (next_in l day k) (next_of (appointment_at l k) day) (next_in_lem l day k (λ i h. t i (omega arith)))
+    (another_sooner l k day (next_in l day k) (next_of (appointment_at l k) day) (next_in_lem l day k (λ i h. t i (omega arith)))
     (next_of_lem (appointment_at l k) day (t k (omega arith))))
 
 abbrev pub next_test : List ℕ → ℕ → ℕ

@@ -24,17 +24,17 @@ module _ (l : List ℕ) (old new : ℕ) where
   abbrev pub days_needs : List (ℕ × Type 0)
   days_needs = day_needs l old ++ ((12, IsDay new) ∷ [])
 
-  days_passed : {r : ℕ} → r ≡ 0 → Answers days_needs r → All days_needs
+  days_passed : Answers days_needs 0 → All days_needs
   unfolding appointment_needs day_needs
-  days_passed = passed days_needs (omega arith)
+  days_passed = passed days_needs (omega arith) refl
 
   list_passed : All days_needs → All (appointment_needs l)
   unfolding appointment_needs day_needs
   list_passed p = (p.0, (p.1.0, (p.1.1.0, (p.1.1.1.0, tt))))
 
-  pub in_range : {r : ℕ} → r ≡ 0 → Answers days_needs r → InRange l
+  pub in_range : Answers days_needs 0 → InRange l
   unfolding appointment_needs day_needs
-  in_range z a = (days_passed z a).1.1.1.0
+  in_range a = (days_passed a).1.1.1.0
 
   module _ (b : List ℕ) where
     pub block_refuses : {r : ℕ} → (r ≡ 0 → ⊥) → Answers (block_needs b) r → Moved b l old new (r, b)
@@ -47,11 +47,11 @@ module _ (l : List ℕ) (old new : ℕ) where
         passed_first (λ n. (n, b)) (block_needs b) days_needs (Carried b steps b) (r, b) (passed (block_needs b) (omega arith) z t)
         (refuses (λ n. (n, b)) (Carried b steps b) days_needs u a)
 
-    pub carried : {r : ℕ} → Bytes l → (cs : List ℕ) (o : ℕ × List ℕ) → r ≡ 0 → Answers days_needs r → packed_changes cs ≡ steps → CarriesOut b cs o
+    pub carried : Bytes l → (cs : List ℕ) (o : ℕ × List ℕ) → Answers days_needs 0 → packed_changes cs ≡ steps → CarriesOut b cs o
         → Moved b l old new o
     unfolding Moved move_needs CarriesOut list_needs
-    carried bytes cs o z a e h =
-        let all = days_passed z a in
+    carried bytes cs o a e h =
+        let all = days_passed a in
         with_last (λ n. (n, b)) (block_needs b) days_needs (Carried b steps b) o all
         (subst (λ (ds : List Change). First (λ n. (n, b)) (block_needs b) (Carried b ds b) o) e
         (without_last (λ n. (n, b)) (block_needs b) (own_needs cs) (Carried b (packed_changes cs) b) o

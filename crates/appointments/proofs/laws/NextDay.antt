@@ -7,6 +7,8 @@ use mathlib.Core.Logic.{◌⊎◌, inl, inr, ⊎_elim}
 use native.Mathlib.Omega.{arith}
 use borrow.Author.Tests.{eq-eqb, ne_eqb, le-leb, lt-ltb, lt-leb, le-ltb}
 use lib.Dec.{leb, ltb}
+use Rattle.std.specs.Prelude.{min, Option, Some, None}
+use Rattle.std.proofs.lemmas.Bool.Decides.{nat_tests}
 use Rattle.index.proofs.laws.Range.{lt_or_le}
 use Rattle.index.proofs.laws.message.Halves.{differ}
 use Rattle.calendar.specs.Dates.{IsDay, day_number}
@@ -15,7 +17,7 @@ use Rattle.calendar.proofs.laws.Dates.{in_range}
 use Rattle.calendar.proofs.laws.Terms.{later}
 use Rattle.appointments.specs.Appointment.{Appointment, appointment_at, stands_on, only_on}
 use Rattle.appointments.specs.Asking.{Differs, IsFirst}
-use Rattle.appointments.specs.work.Listed.{sooner}
+use Rattle.appointments.specs.work.Listed.{sooner, earlier, FirstDay}
 
 -- ---- the first day of which something holds
 
@@ -64,6 +66,25 @@ first_sooner day left right apart a b p q =
 
 pub first_none : {P : ℕ → Type 0} (day : ℕ) → ((m : ℕ) → P m → ⊥) → IsFirst P day 0
 first_none day none = record { there = inl refl; first = λ m l i p. absurd (none m p) }
+
+-- The earlier of two days, where there are two, is the sooner.
+min_sooner : (a b : ℕ) → 0 < a → 0 < b → min a b ≡ sooner a b
+unfolding sooner
+min_sooner a b p q = grind (arith, nat_tests)
+
+no_sooner : (a : ℕ) → 0 < a → sooner a 0 ≡ a
+unfolding sooner
+no_sooner a p = rw (ne_eqb a 0 (omega arith))
+
+pub first_earlier : {P Q R : ℕ → Type 0} (day : ℕ) → ((m : ℕ) → P m → R m) → ((m : ℕ) → Q m → R m) → ((m : ℕ) → R m → P m ⊎ Q m)
+    → (a b : Option ℕ) → FirstDay P day a → FirstDay Q day b → FirstDay R day (earlier a b)
+unfolding sooner
+first_earlier day left right apart (Some a) (Some b) p q =
+    (omega (arith, p.0, q.0), rw (min_sooner a b p.0 q.0) (first_sooner day left right apart a b p.1 q.1))
+first_earlier {R = R} day left right apart (Some a) None p q =
+    (p.0, subst (IsFirst R day) (no_sooner a p.0) (first_sooner day left right apart a 0 p.1 q))
+first_earlier day left right apart None (Some b) p q = (q.0, first_sooner day left right apart 0 b p q.1)
+first_earlier day left right apart None None p q = first_sooner day left right apart 0 0 p q
 
 -- ---- of one appointment
 
@@ -129,14 +150,18 @@ module _ (a : Appointment) (t : IsTerm a.first a.term) where
 abbrev pub AnotherOf : List ℕ → ℕ → ℕ → ℕ → Type 0
 AnotherOf l k day n = (i : ℕ) × (i < k) × Differs (appointment_at l i) day n
 
-pub another_more : (l : List ℕ) (k day a b : ℕ) → IsFirst (AnotherOf l k day) day a → IsFirst (Differs (appointment_at l k) day) day b
-    → IsFirst (AnotherOf l (k + 1) day) day (sooner a b)
-another_more l k day a b p q =
-    first_sooner day (λ m d. (d.0, omega (arith, d.1), d.2)) (λ m d. (k, omega arith, d))
-    (λ m d. go m d.0 d.1 d.2) a b p q
-  where
-    go : (m i : ℕ) → i < k + 1 → Differs (appointment_at l i) day m → AnotherOf l k day m ⊎ Differs (appointment_at l k) day m
-    go m i h d =
-        ⊎_elim (λ g. inl (i, g, d))
-        (λ g. let e : i ≡ k = omega arith in inr (subst (λ (j : ℕ). Differs (appointment_at l j) day m) e d))
-        (lt_or_le i k)
+-- Another one differs from a day where one of the first k does, or the next.
+apart : (l : List ℕ) (k day m : ℕ) → AnotherOf l (k + 1) day m → AnotherOf l k day m ⊎ Differs (appointment_at l k) day m
+apart l k day m d =
+    ⊎_elim (λ g. inl (d.0, g, d.2))
+    (λ g. let e : d.0 ≡ k = omega (arith, d.1) in inr (subst (λ (j : ℕ). Differs (appointment_at l j) day m) e d.2))
+    (lt_or_le d.0 k)
+
+module _ (l : List ℕ) (k day : ℕ) where
+  pub another_sooner : (a b : ℕ) → IsFirst (AnotherOf l k day) day a → IsFirst (Differs (appointment_at l k) day) day b
+      → IsFirst (AnotherOf l (k + 1) day) day (sooner a b)
+  another_sooner = first_sooner day (λ m d. (d.0, omega (arith, d.1), d.2)) (λ m d. (k, omega arith, d)) (apart l k day)
+
+  pub another_more : (a b : Option ℕ) → FirstDay (AnotherOf l k day) day a → FirstDay (Differs (appointment_at l k) day) day b
+      → FirstDay (AnotherOf l (k + 1) day) day (earlier a b)
+  another_more = first_earlier day (λ m d. (d.0, omega (arith, d.1), d.2)) (λ m d. (k, omega arith, d)) (apart l k day)

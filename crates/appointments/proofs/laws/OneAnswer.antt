@@ -1,18 +1,20 @@
 -- Each call on appointments has one answer.
 use Prim.Native.Nat.{ℕ, ◌<◌}
 use mathlib.Core.Path.{◌≡◌, refl, sym, ap, ◌∙◌}
+use mathlib.Core.Bool.{Bool}
 use mathlib.Core.List.{List, ◌∷◌}
 use mathlib.Core.Logic.{◌⊎◌, inl, inr}
 use native.Mathlib.Omega.{arith}
 use lib.ListN.{length}
+use Rattle.std.specs.Prelude.{Option, Some, None, Result, Ok, Err}
+use Rattle.index.specs.Numbers.{yes_no}
+use Rattle.index.specs.declared.refusals.Refusal.{Refusal}
 use Rattle.index.specs.Message.{Carried}
 use Rattle.index.proofs.laws.OneFirst.{one_first}
+use Rattle.index.proofs.laws.OneResult.{answer_once, one_yes_no}
+use Rattle.index.proofs.laws.Refusing.{some, once}
 use Rattle.index.proofs.laws.message.OneMessage.{one_run}
 use Rattle.calendar.specs.Dates.{IsDay}
-use Rattle.appointments.specs.declared.Stood.{Stood}
-use Rattle.appointments.specs.declared.Stood.TheVariants as stood
-use Rattle.appointments.specs.declared.Next.{Next}
-use Rattle.appointments.specs.declared.Next.TheVariants as next
 use Rattle.appointments.specs.Appointment.{appointment_length, day_needs}
 use Rattle.appointments.specs.Moves.{move_needs, Moved}
 use Rattle.appointments.specs.Asking.{Stands, IsFirst, NextChange, StandsAnswers, NextAnswers}
@@ -31,23 +33,9 @@ unfolding Stands
 one_stands l day =
     one_first (λ n. (n, 0)) ((3, length l ≡ appointment_length) ∷ day_needs l day) (answer l day) (λ o o' p q. p ∙ sym q)
 
-number : {o o' : ℕ × ℕ} → o ≡ o' → o.0 ≡ o'.0
-number e = ap (λ (o : ℕ × ℕ). o.0) e
-
-value : {o o' : ℕ × ℕ} → o ≡ o' → o.1 ≡ o'.1
-value e = ap (λ (o : ℕ × ℕ). o.1) e
-
-pub one_stood : (l : List ℕ) (day : ℕ) (r s : Stood) → StandsAnswers l day r → StandsAnswers l day s → r ≡ s
+pub one_stood : (l : List ℕ) (day : ℕ) (r s : Result Bool Refusal) → StandsAnswers l day r → StandsAnswers l day s → r ≡ s
 unfolding StandsAnswers
-one_stood l day stood.Yes stood.Yes p q = refl
-one_stood l day stood.Yes stood.No p q = absurd (omega (arith, value (one_stands l day (0, 1) (0, 0) p q)))
-one_stood l day stood.Yes (stood.Refused n) p q = absurd (omega (arith, number (one_stands l day (0, 1) (n, 0) p q.1), q.0))
-one_stood l day stood.No stood.Yes p q = absurd (omega (arith, value (one_stands l day (0, 0) (0, 1) p q)))
-one_stood l day stood.No stood.No p q = refl
-one_stood l day stood.No (stood.Refused n) p q = absurd (omega (arith, number (one_stands l day (0, 0) (n, 0) p q.1), q.0))
-one_stood l day (stood.Refused n) stood.Yes p q = absurd (omega (arith, number (one_stands l day (n, 0) (0, 1) p.1 q), p.0))
-one_stood l day (stood.Refused n) stood.No p q = absurd (omega (arith, number (one_stands l day (n, 0) (0, 0) p.1 q), p.0))
-one_stood l day (stood.Refused n) (stood.Refused m) p q = ap stood.Refused (number (one_stands l day (n, 0) (m, 0) p.1 q.1))
+one_stood l day = answer_once yes_no 0 one_yes_no (Stands l day) (one_stands l day)
 
 -- ---- the next change
 
@@ -69,14 +57,20 @@ one_next_change l day =
     let v : o.1 ≡ o'.1 = one_day day o.1 o'.1 p.1 q.1 in
     λ i. (n i, v i))
 
-pub one_next : (l : List ℕ) (day : ℕ) (r s : Next) → NextAnswers l day r → NextAnswers l day s → r ≡ s
+number : {o o' : ℕ × ℕ} → o ≡ o' → o.0 ≡ o'.0
+number e = ap (λ (o : ℕ × ℕ). o.0) e
+
+value : {o o' : ℕ × ℕ} → o ≡ o' → o.1 ≡ o'.1
+value e = ap (λ (o : ℕ × ℕ). o.1) e
+
+pub one_next : (l : List ℕ) (day : ℕ) (r s : Result (Option ℕ) Refusal) → NextAnswers l day r → NextAnswers l day s → r ≡ s
 unfolding NextAnswers
-one_next l day (next.On n) (next.On m) p q = ap next.On (value (one_next_change l day (0, n) (0, m) p.1 q.1))
-one_next l day (next.On n) next.Never p q = absurd (omega (arith, value (one_next_change l day (0, n) (0, 0) p.1 q), p.0))
-one_next l day (next.On n) (next.Refused m) p q = absurd (omega (arith, number (one_next_change l day (0, n) (m, 0) p.1 q.1), q.0))
-one_next l day next.Never (next.On m) p q = absurd (omega (arith, value (one_next_change l day (0, 0) (0, m) p q.1), q.0))
-one_next l day next.Never next.Never p q = refl
-one_next l day next.Never (next.Refused m) p q = absurd (omega (arith, number (one_next_change l day (0, 0) (m, 0) p q.1), q.0))
-one_next l day (next.Refused n) (next.On m) p q = absurd (omega (arith, number (one_next_change l day (n, 0) (0, m) p.1 q.1), p.0))
-one_next l day (next.Refused n) next.Never p q = absurd (omega (arith, number (one_next_change l day (n, 0) (0, 0) p.1 q), p.0))
-one_next l day (next.Refused n) (next.Refused m) p q = ap next.Refused (number (one_next_change l day (n, 0) (m, 0) p.1 q.1))
+one_next l day (Ok (Some n)) (Ok (Some m)) p q = ap (λ (k : ℕ). Ok (Some k)) (value (one_next_change l day (0, n) (0, m) p.1 q.1))
+one_next l day (Ok (Some n)) (Ok None) p q = absurd (omega (arith, p.0, value (one_next_change l day (0, n) (0, 0) p.1 q)))
+one_next l day (Ok (Some n)) (Err e) p q = absurd (some e (sym (number (one_next_change l day (0, n) (_, 0) p.1 q))))
+one_next l day (Ok None) (Ok (Some m)) p q = absurd (omega (arith, q.0, value (one_next_change l day (0, 0) (0, m) p q.1)))
+one_next l day (Ok None) (Ok None) p q = refl
+one_next l day (Ok None) (Err e) p q = absurd (some e (sym (number (one_next_change l day (0, 0) (_, 0) p q))))
+one_next l day (Err e) (Ok (Some m)) p q = absurd (some e (number (one_next_change l day (_, 0) (0, m) p q.1)))
+one_next l day (Err e) (Ok None) p q = absurd (some e (number (one_next_change l day (_, 0) (0, 0) p q)))
+one_next l day (Err e) (Err f) p q = ap Err (once e f (number (one_next_change l day (_, 0) (_, 0) p q)))

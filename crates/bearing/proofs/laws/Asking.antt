@@ -4,22 +4,23 @@ use mathlib.Core.Path.{◌≡◌, refl, sym, subst}
 use mathlib.Core.List.{List}
 use mathlib.Core.Logic.{◌⊎◌, ◌↔◌, inl, inr}
 use native.Mathlib.Omega.{arith}
-use Rattle.index.specs.Numbers.{First, Answers}
+use Rattle.index.specs.Numbers.{First, Answers, number, yes_no}
 use Rattle.index.specs.Block.{IsName, Sized, Good}
 use Rattle.index.specs.Message.{IsKind, kind_of}
 use Rattle.index.specs.Calls.{block_needs}
-use Rattle.index.proofs.laws.Firsts.{All, passed, refuses, first_all, first_sure, first_passed, with_last}
+use Rattle.index.proofs.laws.Firsts.{All, passed, refuses, first_all, first_passed, with_last, answers_first}
+use Rattle.index.proofs.laws.message.SentTests.{block_late}
 use Rattle.index.proofs.laws.OneFirst.{one_first}
-use Rattle.rights.specs.declared.Answer.{Answer}
-use Rattle.rights.specs.declared.Answer.TheVariants as answer
+use mathlib.Core.Bool.{Bool, true, false}
+use Rattle.std.specs.Prelude.{Result, Ok, Err}
+use Rattle.index.specs.declared.refusals.Refusal.{Refusal}
+use Rattle.index.proofs.laws.Refusing.{some, means_map}
 use Rattle.rights.specs.Chain.Chain.{here, through}
 use Rattle.rights.specs.Groups.{Member}
 use Rattle.rights.specs.Held.{Looked}
 use Rattle.rights.specs.Questions.{YesWhen}
 use Rattle.rights.specs.Near.{Near}
 use Rattle.rights.proofs.laws.walk.MarksAreChains.{stays}
-use Rattle.rights.proofs.laws.questions.Requiring.{positive}
-use Rattle.rights.proofs.laws.questions.AskingBy.{answer_map}
 use Rattle.rights.proofs.laws.questions.OneAnswer.{one_yes, answer_once}
 use Rattle.bearing.specs.Bearing.{Bears, record_needs, bears_needs, Bearing, AsksBearing}
 use Rattle.bearing.specs.work.Telling.{Tells}
@@ -42,10 +43,10 @@ looked b o x = (by_one b o x, back)
 -- ---- the call
 
 -- The names of a record that is not refused.
-pub record_passed : (u o kind x y : ℕ) {m : ℕ} → m ≡ 0 → Answers (record_needs u o kind x y) m → IsName u × (IsName o × (IsName x × IsName y))
+pub record_passed : (u o kind x y : ℕ) → Answers (record_needs u o kind x y) 0 → IsName u × (IsName o × (IsName x × IsName y))
 unfolding record_needs
-record_passed u o kind x y e tested =
-    let names = (passed (record_needs u o kind x y) (omega arith) e tested).1.0 in
+record_passed u o kind x y tested =
+    let names = (passed (record_needs u o kind x y) (omega arith) refl tested).1.0 in
     (names.0, (names.1, (names.2, names.3)))
 
 -- All that it needs.
@@ -77,26 +78,22 @@ module _ (b : List ℕ) (u o kind x y : ℕ) where
 
   -- ---- for the code
 
-  -- A record that is refused.
-  above : {m n : ℕ} → (m ≡ 0 → ⊥) → Answers (record_needs u o kind x y) m → Answers (bears_needs b u o kind x y) n → n ≡ 0 → ⊥
-  unfolding bears_needs record_needs block_needs
-  above {m} some tested a e =
-      some (first_sure (λ n. n) (λ n. n ≡ 0) m (record_needs u o kind x y) (passed (bears_needs b u o kind x y) (omega arith) e a).1.1 tested)
+  -- A record that is refused: for the block first.
+  pub refused_block : (e : Refusal) → Answers (block_needs b) (number e) → AsksBearing b u o kind x y (Err e)
+  unfolding AsksBearing Bearing bears_needs
+  refused_block e a = refuses refusal Said (bears_needs b u o kind x y) (some e) (answers_first (block_needs b) (record_needs u o kind x y) (some e) a)
 
-  pub refused : {m : ℕ} (n : ℕ) → (m ≡ 0 → ⊥) → Answers (record_needs u o kind x y) m → Answers (bears_needs b u o kind x y) n
-      → AsksBearing b u o kind x y (answer.Refused n)
-  unfolding AsksBearing Bearing
-  refused n some tested a =
-      let due = above some tested a in
-      (positive n due, refuses refusal Said (bears_needs b u o kind x y) due a)
+  pub refused : (e : Refusal) → Answers (block_needs b) 0 → Answers (record_needs u o kind x y) (number e) → AsksBearing b u o kind x y (Err e)
+  unfolding AsksBearing Bearing bears_needs
+  refused e a tested = refuses refusal Said (bears_needs b u o kind x y) (some e) (block_late b (record_needs u o kind x y) (number e) refl a tested)
 
   -- And one that is not.
-  pub told : {m : ℕ} → m ≡ 0 → Answers (record_needs u o kind x y) m → (r : Answer) → Tells b (Bears b u o (kind_of kind) x y) r
+  pub told : Answers (record_needs u o kind x y) 0 → (r : Result Bool Refusal) → Tells b (Bears b u o (kind_of kind) x y) r
       → AsksBearing b u o kind x y r
   unfolding AsksBearing Bearing bears_needs record_needs Tells
-  told e tested r =
-      answer_map (λ a. First refusal (block_needs b) Said a) (Bearing b u o kind x y)
-      (λ a. with_last refusal (block_needs b) (record_needs u o kind x y) Said a (passed (record_needs u o kind x y) (omega arith) e tested)) r
+  told tested r =
+      means_map yes_no 0 (λ a. First refusal (block_needs b) Said a) (Bearing b u o kind x y)
+      (λ a. with_last refusal (block_needs b) (record_needs u o kind x y) Said a (passed (record_needs u o kind x y) (omega arith) refl tested)) r
 
   -- ---- what a yes or no rests on
 
@@ -104,17 +101,17 @@ module _ (b : List ℕ) (u o kind x y : ℕ) where
   unfolding Bearing
   says all a said = first_all refusal Said a (bears_needs b u o kind x y) (all_asked all) said
 
-  pub says_yes : Asked b u o kind x y → Bears b u o (kind_of kind) x y → AsksBearing b u o kind x y answer.Yes
+  pub says_yes : Asked b u o kind x y → Bears b u o (kind_of kind) x y → AsksBearing b u o kind x y (Ok true)
   unfolding AsksBearing
   says_yes all bears = says all (0, 1) (refl, omega arith, ((λ e. bears), (λ h. refl)))
 
-  pub says_no : Asked b u o kind x y → (Bears b u o (kind_of kind) x y → ⊥) → AsksBearing b u o kind x y answer.No
+  pub says_no : Asked b u o kind x y → (Bears b u o (kind_of kind) x y → ⊥) → AsksBearing b u o kind x y (Ok false)
   unfolding AsksBearing
   says_no all not = says all (0, 0) (refl, omega arith, ((λ e. absurd (omega arith)), (λ h. absurd (not h))))
 
   -- ---- what a no says
 
-  pub said_no : AsksBearing b u o kind x y answer.No → Asked b u o kind x y × (Bears b u o (kind_of kind) x y → ⊥)
+  pub said_no : AsksBearing b u o kind x y (Ok false) → Asked b u o kind x y × (Bears b u o (kind_of kind) x y → ⊥)
   unfolding AsksBearing Bearing bears_needs record_needs block_needs
   said_no said =
       let r = first_passed refusal Said (0, 0) (λ a. a.0) (λ n. refl) (bears_needs b u o kind x y) (omega arith) refl said in
@@ -126,6 +123,6 @@ module _ (b : List ℕ) (u o kind x y : ℕ) where
   unfolding Bearing
   one_bearing = one_first refusal (bears_needs b u o kind x y) Said (one_yes (Bears b u o (kind_of kind) x y))
 
-  pub one_asks_bearing : (r s : Answer) → AsksBearing b u o kind x y r → AsksBearing b u o kind x y s → r ≡ s
+  pub one_asks_bearing : (r s : Result Bool Refusal) → AsksBearing b u o kind x y r → AsksBearing b u o kind x y s → r ≡ s
   unfolding AsksBearing
   one_asks_bearing = answer_once (Bearing b u o kind x y) one_bearing

@@ -3,15 +3,16 @@ use Prim.Native.Nat.{ℕ}
 use mathlib.Core.Path.{refl, sym, subst, ◌∙◌}
 use mathlib.Core.List.{List, [], ◌∷◌, ◌++◌}
 use mathlib.Core.Logic.{inl, inr}
-use Rattle.index.specs.Numbers.{Each}
+use Rattle.index.specs.Numbers.{Each, yes_no}
 use Rattle.index.specs.Message.{Half, kind_of, kind_number}
 use Rattle.index.specs.Wide.{Sent, previous_of, new_of}
 use Rattle.index.specs.Calls.{block_needs}
 use Rattle.index.proofs.laws.Firsts.{first_map, passed_first, past_first}
-use Rattle.rights.specs.declared.Answer.{Answer}
-use Rattle.rights.specs.declared.Answer.TheVariants.{No}
+use mathlib.Core.Bool.{Bool, false}
+use Rattle.std.specs.Prelude.{Result, Ok}
+use Rattle.index.specs.declared.refusals.Refusal.{Refusal}
 use Rattle.rights.specs.Questions.{YesWhen}
-use Rattle.rights.proofs.laws.questions.AskingBy.{answer_map}
+use Rattle.index.proofs.laws.Refusing.{means_map}
 use Rattle.bearing.specs.Bearing.{Bears, record_needs, bears_needs, Bearing, AsksBearing}
 use Rattle.bearing.specs.EqualAnswers.{Agree, SaysNo, Elsewhere, Sending, BearingEqual, AllChangeNoAnswer, AnyChangeNoAnswer}
 use Rattle.bearing.specs.EqualAnswers.Sending.{nothing, next}
@@ -21,11 +22,11 @@ use Rattle.bearing.proofs.laws.Elsewhere.{SameOrAgree, sent_kept, none_moves, di
 
 -- What the call says of one block it says of the other.
 module _ (b b' : List ℕ) (u o : ℕ) where
-  bearing_on : (kind x y : ℕ) → SameOrAgree b b' u o → (r : Answer) → AsksBearing b u o kind x y r → AsksBearing b' u o kind x y r
+  bearing_on : (kind x y : ℕ) → SameOrAgree b b' u o → (r : Result Bool Refusal) → AsksBearing b u o kind x y r → AsksBearing b' u o kind x y r
   unfolding AsksBearing Bearing bears_needs block_needs
   bearing_on kind x y (inl e) r a = subst (λ (c : List ℕ). AsksBearing c u o kind x y r) e a
   bearing_on kind x y (inr (s, g, s', g', agree)) r a =
-      answer_map (Bearing b u o kind x y) (Bearing b' u o kind x y)
+      means_map yes_no 0 (Bearing b u o kind x y) (Bearing b' u o kind x y)
       (λ c f.
       let same = bears_in_both b b' u o agree (kind_of kind) x y in
       let needs = record_needs u o kind x y in
@@ -37,7 +38,7 @@ module _ (b b' : List ℕ) (u o : ℕ) where
   elsewhere_on : SameOrAgree b b' u o → (hs : List Half) → Each (λ h. SaysNo b u o h.kind h.key h.id) hs → Each (λ h. SaysNo b' u o h.kind h.key h.id) hs
   elsewhere_on kept [] said = tt
   elsewhere_on kept (h ∷ hs) said =
-      (bearing_on (kind_number h.kind) h.key h.id kept No said.0, elsewhere_on kept hs said.1)
+      (bearing_on (kind_number h.kind) h.key h.id kept (Ok false) said.0, elsewhere_on kept hs said.1)
 
   all_elsewhere_on : SameOrAgree b b' u o → (ms : List Sent) → Each (Elsewhere b u o) ms → Each (Elsewhere b' u o) ms
   all_elsewhere_on kept [] all = tt

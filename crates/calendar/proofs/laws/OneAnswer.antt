@@ -1,16 +1,13 @@
 -- Each call of the calendar has one answer.
 use Prim.Native.Nat.{ℕ}
-use mathlib.Core.Path.{◌≡◌, sym, ap, ◌∙◌}
+use mathlib.Core.Path.{◌≡◌, sym, ◌∙◌}
 use mathlib.Core.List.{[], ◌∷◌}
-use native.Mathlib.Omega.{arith}
+use Rattle.std.specs.Prelude.{Result}
+use Rattle.index.specs.declared.refusals.Refusal.{Refusal}
 use Rattle.index.proofs.laws.OneFirst.{one_first}
+use Rattle.index.proofs.laws.OneResult.{answer_once}
 use Rattle.calendar.specs.declared.Date.{Date}
-use Rattle.calendar.specs.declared.DayNumber.{DayNumber}
-use Rattle.calendar.specs.declared.DayNumber.TheVariants as numbered
-use Rattle.calendar.specs.declared.Dated.{Dated}
-use Rattle.calendar.specs.declared.Dated.TheVariants as dated
 use Rattle.calendar.specs.declared.Span.{Span}
-use Rattle.calendar.specs.declared.Span.TheVariants as span
 use Rattle.calendar.specs.Dates.{date, IsDate, day_number, IsDay}
 use Rattle.calendar.specs.Terms.{anniversary, IsTerm}
 use Rattle.calendar.specs.Calls.{Twelve, DayOf, DateOf, AnniversaryOf, SpanOf, DayAnswers, DateAnswers, SpanAnswers}
@@ -50,38 +47,19 @@ one_span_of first term =
     let to : s.1 ≡ s'.1 = p.1 ∙ sym q.1 in
     λ i. (from i, to i))
 
--- ---- so has each case of an answer
+-- ---- so have the answers of the code
 
-module _ {A : Type 0} (Outcome : ℕ × A → Type 0) (one : (o o' : ℕ × A) → Outcome o → Outcome o' → o ≡ o') where
-  value : (n m : ℕ) (v w : A) → Outcome (n, v) → Outcome (m, w) → v ≡ w
-  value n m v w p q = ap (λ (o : ℕ × A). o.1) (one (n, v) (m, w) p q)
+module _ (Outcome : ℕ × ℕ → Type 0) (one : (o o' : ℕ × ℕ) → Outcome o → Outcome o' → o ≡ o') where
+  pub one_day : (r s : Result ℕ Refusal) → DayAnswers Outcome r → DayAnswers Outcome s → r ≡ s
+  unfolding DayAnswers
+  one_day = answer_once (λ n. n) 0 (λ n m e. e) Outcome one
 
-  number : (n m : ℕ) (v w : A) → Outcome (n, v) → Outcome (m, w) → n ≡ m
-  number n m v w p q = ap (λ (o : ℕ × A). o.0) (one (n, v) (m, w) p q)
+module _ (Outcome : ℕ × Date → Type 0) (one : (o o' : ℕ × Date) → Outcome o → Outcome o' → o ≡ o') where
+  pub one_dated : (r s : Result Date Refusal) → DateAnswers Outcome r → DateAnswers Outcome s → r ≡ s
+  unfolding DateAnswers
+  one_dated = answer_once (λ d. d) (date 0 0 0) (λ d e q. q) Outcome one
 
-pub one_day : (Outcome : ℕ × ℕ → Type 0) → ((o o' : ℕ × ℕ) → Outcome o → Outcome o' → o ≡ o') → (r s : DayNumber)
-    → DayAnswers Outcome r → DayAnswers Outcome s → r ≡ s
-unfolding DayAnswers
-one_day O one (numbered.Day n) (numbered.Day m) p q = ap numbered.Day (value O one 0 0 n m p q)
-one_day O one (numbered.Day n) (numbered.Refused m) p q = absurd (omega (arith, number O one 0 m n 0 p q.1, q.0))
-one_day O one (numbered.Refused n) (numbered.Day m) p q = absurd (omega (arith, number O one n 0 0 m p.1 q, p.0))
-one_day O one (numbered.Refused n) (numbered.Refused m) p q = ap numbered.Refused (number O one n m 0 0 p.1 q.1)
-
-pub one_dated : (Outcome : ℕ × Date → Type 0) → ((o o' : ℕ × Date) → Outcome o → Outcome o' → o ≡ o') → (r s : Dated)
-    → DateAnswers Outcome r → DateAnswers Outcome s → r ≡ s
-unfolding DateAnswers
-one_dated O one (dated.On d) (dated.On e) p q = ap dated.On (value O one 0 0 d e p q)
-one_dated O one (dated.On d) (dated.Refused m) p q = absurd (omega (arith, number O one 0 m d (date 0 0 0) p q.1, q.0))
-one_dated O one (dated.Refused n) (dated.On e) p q = absurd (omega (arith, number O one n 0 (date 0 0 0) e p.1 q, p.0))
-one_dated O one (dated.Refused n) (dated.Refused m) p q =
-    ap dated.Refused (number O one n m (date 0 0 0) (date 0 0 0) p.1 q.1)
-
-pub one_span : (Outcome : ℕ × (ℕ × ℕ) → Type 0) → ((o o' : ℕ × (ℕ × ℕ)) → Outcome o → Outcome o' → o ≡ o') → (r s : Span)
-    → SpanAnswers Outcome r → SpanAnswers Outcome s → r ≡ s
-unfolding SpanAnswers
-one_span O one (span.Days a b) (span.Days c d) p q =
-    let e = value O one 0 0 (a, b) (c, d) p q in
-    cc (ap (λ (v : ℕ × ℕ). v.0) e, ap (λ (v : ℕ × ℕ). v.1) e)
-one_span O one (span.Days a b) (span.Refused m) p q = absurd (omega (arith, number O one 0 m (a, b) (0, 0) p q.1, q.0))
-one_span O one (span.Refused n) (span.Days a b) p q = absurd (omega (arith, number O one n 0 (0, 0) (a, b) p.1 q, p.0))
-one_span O one (span.Refused n) (span.Refused m) p q = ap span.Refused (number O one n m (0, 0) (0, 0) p.1 q.1)
+module _ (Outcome : ℕ × (ℕ × ℕ) → Type 0) (one : (o o' : ℕ × (ℕ × ℕ)) → Outcome o → Outcome o' → o ≡ o') where
+  pub one_span : (r s : Result Span Refusal) → SpanAnswers Outcome r → SpanAnswers Outcome s → r ≡ s
+  unfolding SpanAnswers
+  one_span = answer_once (λ s. (s.from, s.to)) (0, 0) (λ s t q. λ i. record { from = (q i).0; to = (q i).1 }) Outcome one

@@ -4,10 +4,12 @@ use mathlib.Core.Path.{◌≡◌, ap}
 use mathlib.Core.Logic.{inl, inr, ⊎_elim}
 use native.Mathlib.Omega.{arith}
 use native.Mathlib.Numerals.{add-one}
+use Rattle.std.specs.Prelude.{Ok, Err}
+use Rattle.index.specs.declared.refusals.Refusal.{Refusal}
 use Rattle.index.proofs.laws.Range.{lt_or_le}
+use Rattle.index.proofs.laws.Refusing.{some}
 use Rattle.calendar.specs.declared.Date.{Date}
-use Rattle.calendar.specs.declared.Dated.TheVariants as dated
-use Rattle.calendar.specs.declared.Span.TheVariants as span
+use Rattle.calendar.specs.declared.Span.{Span}
 use Rattle.calendar.specs.Dates.{month_days, IsDate, day_number}
 use Rattle.calendar.specs.Terms.{in_month, anniversary, IsTerm}
 use Rattle.calendar.specs.Calls.{AnniversaryOf, SpanOf, DateAnswers, SpanAnswers}
@@ -40,24 +42,24 @@ later d k t =
 -- ---- what the answers say: there is a term, or none
 
 module _ (first : Date) (term : ℕ) where
-  pub no_term : (n : ℕ) → DateAnswers (AnniversaryOf first term) (dated.Refused n) → IsTerm first term → ⊥
+  pub no_term : (e : Refusal) → DateAnswers (AnniversaryOf first term) (Err e) → IsTerm first term → ⊥
   unfolding DateAnswers AnniversaryOf
-  no_term n (h, inl r) t = r.0 t
-  no_term n (h, inr r) t = absurd (omega (arith, r.1.0))
+  no_term e (inl r) t = r.0 t
+  no_term e (inr r) t = absurd (some e r.1.0)
 
-  pub is_term : (d : Date) → DateAnswers (AnniversaryOf first term) (dated.On d) → IsTerm first term × (d ≡ anniversary first term)
+  pub is_term : (d : Date) → DateAnswers (AnniversaryOf first term) (Ok d) → IsTerm first term × (d ≡ anniversary first term)
   unfolding DateAnswers AnniversaryOf
   is_term d (inl r) = absurd (omega (arith, ap (λ (o : ℕ × Date). o.0) r.1))
   is_term d (inr r) = (r.0, r.1.1)
 
   -- The same of its days.
-  pub no_span : (n : ℕ) → SpanAnswers (SpanOf first term) (span.Refused n) → IsTerm first term → ⊥
+  pub no_span : (e : Refusal) → SpanAnswers (SpanOf first term) (Err e) → IsTerm first term → ⊥
   unfolding SpanAnswers SpanOf
-  no_span n (h, inl r) t = r.0 t
-  no_span n (h, inr r) t = absurd (omega (arith, r.1.0))
+  no_span e (inl r) t = r.0 t
+  no_span e (inr r) t = absurd (some e r.1.0)
 
-  pub is_span : (from to : ℕ) → SpanAnswers (SpanOf first term) (span.Days from to)
-      → IsTerm first term × (from ≡ day_number first) × (to ≡ day_number (anniversary first term))
+  pub is_span : (s : Span) → SpanAnswers (SpanOf first term) (Ok s)
+      → IsTerm first term × (s.from ≡ day_number first) × (s.to ≡ day_number (anniversary first term))
   unfolding SpanAnswers SpanOf
-  is_span from to (inl r) = absurd (omega (arith, ap (λ (o : ℕ × (ℕ × ℕ)). o.0) r.1))
-  is_span from to (inr r) = (r.0, r.1.1.0, r.1.1.1)
+  is_span s (inl r) = absurd (omega (arith, ap (λ (o : ℕ × (ℕ × ℕ)). o.0) r.1))
+  is_span s (inr r) = (r.0, r.1.1.0, r.1.1.1)

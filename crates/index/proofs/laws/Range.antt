@@ -1,13 +1,9 @@
 -- What holds of each number from a on, below n.
 use Prim.Native.Nat.{ℕ, zero, suc, zero-le, suc-le-suc, ◌+◌, ◌<◌, ◌≤◌}
-use mathlib.Core.Path.{◌≡◌, sym, subst, ◌∙◌}
-use mathlib.Core.List.{List}
+use mathlib.Core.Path.{sym, subst}
 use mathlib.Core.Logic.{◌⊎◌, inl, inr, ⊎_elim}
 use native.Mathlib.Nat.{eq-or-lt_of_le}
 use native.Mathlib.Omega.{arith}
-use borrow.Author.Count.{below_more}
-use lib.ListN.{length, get_or, set}
-use lib.Seq.{get_or-set_same, get_or-set_other}
 
 pub lt_or_le : (a b : ℕ) → (a < b) ⊎ (b ≤ a)
 lt_or_le zero zero = inr zero-le
@@ -33,9 +29,3 @@ pub listed : (P : ℕ → Type 0) (n : ℕ) → Listed P n → (k : ℕ) → k <
 listed P zero a k h = absurd (omega arith)
 listed P (suc n) a zero h = a.0
 listed P (suc n) a (suc k) h = listed (λ k. P (suc k)) n a.1 k (omega arith)
-
--- A list is written from the front on, one value after the other: what stands below k, and at k, stands below k + 1.
-pub set_below : (l : List ℕ) (f : ℕ → ℕ) (k v : ℕ) → k < length l → ((j : ℕ) → j < k → get_or l j 0 ≡ f j) → v ≡ f k
-    → (j : ℕ) → j < k + 1 → get_or (set l k v) j 0 ≡ f j
-set_below l f k v h below e =
-    below_more (λ j. get_or (set l k v) j 0 ≡ f j) k (λ j m. get_or-set_other l k j v 0 (omega arith) ∙ below j m) (get_or-set_same l k v 0 h ∙ e)

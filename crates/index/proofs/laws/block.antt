@@ -2,7 +2,6 @@
 -- Bytes and numbers.
 pub mod Stores
 pub mod Bytes
-pub mod Filling
 pub mod Seen
 -- Letters: the rights in a mask, and which letters a kind may have.
 pub mod Masks
@@ -12,6 +11,7 @@ pub mod ThreeKinds
 pub mod Records
 pub mod Finding
 -- A good block: what it is made of, records in the place of others, tests of it, and that its counts fix it.
+pub mod Known
 pub mod Together
 pub mod Splice
 pub mod Checked
@@ -23,5 +23,4 @@ pub mod Empty
 pub mod SpliceThen
 -- The doors: the net mask of a record, and one answer each.
 pub mod Joining
-pub mod RecordRead
 pub mod OneDoor

@@ -3,6 +3,7 @@
 pub mod HalfLetters
 pub mod Formula
 pub mod Halves
+pub mod KindRead
 -- One change: the counts of a record, and what comes of them in a block.
 pub mod Recount
 pub mod Changes
@@ -13,11 +14,13 @@ pub mod SentTests
 -- Changes one after the other, and as numbers.
 pub mod OneMessage
 pub mod Running
+pub mod RunningFront
 pub mod Packing
 pub mod ListTests
 pub mod StaysGood
--- Wide messages: their lists of names, every pair, and the pairs as numbers.
+-- Wide messages: their lists of names, what a value says of its message, every pair, and the pairs as numbers.
 pub mod NameLists
+pub mod WideKnown
 pub mod EveryPair
 pub mod PairsListed
 -- Tests that compute.

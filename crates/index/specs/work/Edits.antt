@@ -1,16 +1,14 @@
 -- For proofs only: what the functions on records and halves do.
-use Rattle.std.specs.Prelude.{ℕ, suc, ◌+◌, ◌*◌, ◌/◌, ◌%◌, ◌^◌, ◌<◌, ◌≤◌, ◌≡◌, Bool, true, false, cond, List, ◌++◌, ◌↔◌, eqb, length, get_or}
+use Rattle.std.specs.Prelude.{ℕ, suc, ◌+◌, ◌*◌, ◌/◌, ◌%◌, ◌^◌, ◌<◌, ◌≤◌, ◌≡◌, Bool, true, false, cond, List, ◌++◌, ◌↔◌, length, get_or, Result, Ok, Err}
 use Rattle.std.specs.Int.Bits.{bit_or}
 use Rattle.index.specs.declared.Kind.{Kind}
-use Rattle.index.specs.declared.block.places.Found.{Found}
-use Rattle.index.specs.declared.block.places.Found.TheVariants as found
 use Rattle.index.specs.declared.Kind.TheVariants.{Membership, Permission, Filter}
 use Rattle.index.specs.Letters.{letter_count, right_count, marker_x, marker_n, may_have, In}
 use Rattle.index.specs.Block.{greatest_count, IsName, header_length, greatest_length, record_length, place, count_at, from, size, records, key, id, Of, Good}
 use Rattle.index.specs.work.Bytes.{Inside}
 use Rattle.index.specs.work.Checks.{Header}
 use Rattle.index.specs.Numbers.{First, Each}
-use Rattle.index.specs.Message.{Half, Named, Masked, Change, Changed, own_count, change_needs, packed_half, PackedWell, packed_change}
+use Rattle.index.specs.Message.{Half, Masked, Change, Changed, own_count, change_needs, packed_half, packed_change}
 use Rattle.index.specs.Message.Change.{take, add}
 use Rattle.index.specs.Wide.{Sent, previous_of, new_of, FormedOf}
 use Rattle.index.specs.work.Places.{spot, At, Gap}
@@ -46,9 +44,10 @@ pub record Lowest (b : List ℕ) (kind : Kind) (want r : ℕ) : Type 0 where
   pub below : (i : ℕ) → Of b kind i → i < r → spot b i < want
   pub above : (i : ℕ) → Of b kind i → r ≤ i → want ≤ spot b i
 
-abbrev pub Finds : List ℕ → Kind → ℕ → ℕ → Found → Type 0
-Finds b kind x y (found.At i) = At b kind x y i
-Finds b kind x y (found.Missing i) = Gap b kind x y i
+-- The record of the kind with this key and id is number i, or it would be inserted as that.
+abbrev pub Finds : List ℕ → Kind → ℕ → ℕ → Result ℕ ℕ → Type 0
+Finds b kind x y (Ok i) = At b kind x y i
+Finds b kind x y (Err i) = Gap b kind x y i
 
 -- ---- bytes and the header
 
@@ -141,10 +140,6 @@ pub record Step (c : Change) (b : List ℕ) (r : ℕ) (b' : List ℕ) : Type 0 w
 abbrev pub change_of : Bool → Half → Change
 change_of true h = add h
 change_of false h = take h
-
--- The change in the number n passes the test of this number.
-unfoldable pub PassesTest : ℕ → ℕ → Type 0
-PassesTest test n = cond (eqb test 3) (PackedWell n) (cond (eqb test 4) (Named (packed_half n)) (Masked (packed_half n)))
 
 -- The tests have passed, of the block and of each change in the list.
 abbrev pub Prepared : List ℕ → List ℕ → Type 0

@@ -1,9 +1,7 @@
 -- For proofs only: what the piece readers of the code answer, as readings of the bytes that are left, and the text of a set
 -- from a record on.
-use Rattle.std.specs.Prelude.{ℕ, ◌≡◌, Bool, true, false, List, [], ◌∷◌, ◌++◌, length, drop}
+use Rattle.std.specs.Prelude.{ℕ, ◌≡◌, Bool, true, false, List, [], ◌∷◌, ◌++◌, length, drop, Result, Ok, Err}
 use Rattle.index.specs.declared.Kind.{Kind}
-use Rattle.index.specs.declared.Took.{Took}
-use Rattle.index.specs.declared.Took.TheVariants as took
 use Rattle.index.specs.Text.{Entry, Writes, entry_text, text_of, Place}
 use Rattle.index.specs.declared.text.reading.Piece.{Piece}
 use Rattle.index.specs.declared.text.reading.Piece.TheVariants.{Number, Mark, Letters, Wrong}
@@ -44,12 +42,10 @@ place_in (Mark c) = c.at
 place_in (Letters c) = c.at
 place_in (Wrong c) = c.at
 
--- The text is what some set of the kind is written as, which has n records; or no set is written so, and n is its place. No
--- other refusal comes of a text.
-abbrev pub Scanned : Kind → List ℕ → Took → Type 0
-Scanned kind text (took.Set n) = (es : List Entry) × Writes kind es text × (length es ≡ n)
-Scanned kind text (took.Wrong n) = ((es : List Entry) → Writes kind es text → ⊥) × Place kind text n
-Scanned kind text (took.Refused n) = ⊥
+-- The text is what some set of the kind is written as, which has n records; or no set is written so, and n is its place.
+abbrev pub Scanned : Kind → List ℕ → Result ℕ ℕ → Type 0
+Scanned kind text (Ok n) = (es : List Entry) × Writes kind es text × (length es ≡ n)
+Scanned kind text (Err n) = ((es : List Entry) → Writes kind es text → ⊥) × Place kind text n
 
 -- A record as it is added to the text of a set: with `;` before it where the text has begun.
 abbrev pub next_text : Bool → Entry → List ℕ

@@ -1,7 +1,7 @@
 -- For proofs only: 01, "The text of a set", read from the front, piece by piece: an id, `;`, a letter, a count. Each reading
 -- says what stands at the front of the bytes and which bytes are left after it, or that it is wrong, and from which byte on.
 -- That what `text_of` writes is read so is shown in laws/text/ReadSets, and what each reading tells in laws/text/SetReader.
-use Rattle.std.specs.Prelude.{ℕ, suc, ◌+◌, ◌-◌, ◌*◌, ◌<◌, ◌≡◌, Bool, true, false, cond, ◌&&◌, List, [], ◌∷◌, eqb, ltb, leb, get_or}
+use Rattle.std.specs.Prelude.{ℕ, suc, ◌+◌, ◌-◌, ◌*◌, ◌<◌, ◌≡◌, Bool, true, false, cond, ◌&&◌, List, [], ◌∷◌, eqb, ltb, leb, get_or, Option, Some, None}
 use Rattle.index.specs.declared.Kind.{Kind}
 use Rattle.index.specs.Letters.{letter_count, letters, may_have}
 use Rattle.index.specs.Text.{Entry}
@@ -59,15 +59,12 @@ unfoldable pub read_letter : Bool → ℕ → List ℕ → Parsed ℕ
 read_letter may l [] = got 0 []
 read_letter may l (b ∷ t) = cond (may && eqb b l) (read_count t) (got 0 (b ∷ t))
 
--- The byte of letter k, if a record of the kind may have it, and else a number that no byte is.
-abbrev pub no_byte : ℕ
-no_byte = 256
+-- The byte of letter k, if a record of the kind may have it.
+abbrev pub byte_of : Kind → ℕ → Option ℕ
+byte_of kind k = cond (may_have kind k) (Some (get_or letters k 0)) None
 
-abbrev pub byte_of : Kind → ℕ → ℕ
-byte_of kind k = cond (may_have kind k) (get_or letters k 0) no_byte
-
-abbrev pub BytesOf : Kind → List ℕ → Type 0
-BytesOf kind bytes = (k : ℕ) → k < letter_count → get_or bytes k 0 ≡ byte_of kind k
+abbrev pub BytesOf : Kind → List (Option ℕ) → Type 0
+BytesOf kind bytes = (k : ℕ) → k < letter_count → get_or bytes k None ≡ byte_of kind k
 
 -- The counts of the letters ls, in their order, the first of which is letter k.
 unfoldable pub read_counts : Kind → ℕ → List ℕ → List ℕ → Parsed (List ℕ)

@@ -1,6 +1,6 @@
 // Is a block good?
 
-ghost use Rattle.std.specs.Prelude.{◌≡◌, ◌+◌, ◌≤◌, length};
+ghost use Rattle.std.specs.Prelude.{◌≡◌, ◌+◌, ◌≤◌, length, IfOk};
 ghost use Rattle.index.specs.Letters.{letter_count};
 ghost use Rattle.index.specs.Block.{header_length, place, key, id, from, size, records, Good};
 ghost use Rattle.index.specs.work.Bytes.{Pair};
@@ -8,119 +8,17 @@ ghost use Rattle.index.specs.work.Edits.{four_at, two_at, small_at, markers_at, 
 ghost use Rattle.index.specs.work.Checks.{Says, Header, Counted, Part, Zero};
 ghost use Rattle.index.specs.work.Sights.{Follows, SeesMore, Fair};
 ghost use Rattle.index.specs.Calls.{block_needs};
-ghost use Rattle.index.specs.Numbers.{Answers};
+ghost use Rattle.index.specs.Numbers.{number_of, Answers};
 
+use crate::block::good::GoodBlock;
+use crate::block::headed::HeadedBlock;
 use crate::block::letters::may_have;
 use crate::block::numbers::{NUMBERS, number_at, pair_at};
-use crate::block::places::{first_of, size_at};
-use crate::{GREATEST, HEADER, Kind, MARKER_X, NAMES, RECORD, RIGHTS};
+use crate::block::record::Record;
+use crate::{GREATEST, HEADER, Kind, MARKER_X, NAMES, RECORD, RIGHTS, Refusal};
 
 // Two numbers of a block, put together to one, are below this one.
 const PAIRS: usize = 4294967296;
-
-// The header agrees with the parts, and the parts fit in the block.
-fn header_good(b: &[u8]) -> bool
-    requires { header_length ≤ length b.now }
-    ensures { Says (Header b.now) result }
-{
-    let m = number_at(b, 0);
-    let p = number_at(b, 2);
-    let f = number_at(b, 4);
-    let zero = number_at(b, 6);
-    let m_offset = number_at(b, 8);
-    let p_offset = number_at(b, 10);
-    let f_offset = number_at(b, 12);
-    let end = number_at(b, 14);
-    if zero != 0 {
-        return false;
-    }
-    if m_offset != HEADER {
-        return false;
-    }
-    if p_offset != HEADER + RECORD * m {
-        return false;
-    }
-    if f_offset != HEADER + RECORD * (m + p) {
-        return false;
-    }
-    if end != HEADER + RECORD * (m + p + f) {
-        return false;
-    }
-    if end > b.len() {
-        return false;
-    }
-    true
-}
-
-// The counts of the four letters from k on in record i, as one number: the eight bytes are looked at in one go.
-fn four_at(b: &[u8], i: usize, k: usize) -> usize
-    requires { (place (i + 1) ≤ length b.now) × (k + 4 ≤ letter_count) }
-    ensures { result ≡ four_at b.now i k }
-{
-    let at = HEADER + RECORD * i + 4 + 2 * k;
-    (pair_at(b, at) as usize) + PAIRS * (pair_at(b, at + 4) as usize)
-}
-
-// The counts of the two markers in record i, as one number.
-pub(crate) fn two_at(b: &[u8], i: usize) -> usize
-    requires { place (i + 1) ≤ length b.now }
-    ensures { result ≡ two_at b.now i }
-{
-    pair_at(b, HEADER + RECORD * i + 4 + 2 * MARKER_X) as usize
-}
-
-// The counts of the small letters in record i, where it may not have them as one of the kind, or none.
-fn small_at(b: &[u8], kind: Kind, i: usize) -> usize
-    requires { place (i + 1) ≤ length b.now }
-    ensures { result ≡ small_at b.now kind i }
-{
-    if may_have(kind, RIGHTS) {
-        return 0;
-    }
-    four_at(b, i, RIGHTS)
-}
-
-// The counts of the markers in record i, where it may not have them as one of the kind, or none.
-fn markers_at(b: &[u8], kind: Kind, i: usize) -> usize
-    requires { place (i + 1) ≤ length b.now }
-    ensures { result ≡ markers_at b.now kind i }
-{
-    if may_have(kind, MARKER_X) {
-        return 0;
-    }
-    two_at(b, i)
-}
-
-// The counts that record i may not have as one of the kind, joined.
-fn barred_at(b: &[u8], kind: Kind, i: usize) -> usize
-    requires { place (i + 1) ≤ length b.now }
-    ensures { result ≡ barred_at b.now kind i }
-{
-    small_at(b, kind, i) | markers_at(b, kind, i)
-}
-
-// Record i has a count above zero. Mostly it has a capital letter.
-fn has_count(b: &[u8], i: usize) -> bool
-    requires { place (i + 1) ≤ length b.now }
-    ensures { Says (Counted b.now i) result }
-{
-    if four_at(b, i, 0) != 0 {
-        return true;
-    }
-    if four_at(b, i, RIGHTS) != 0 {
-        return true;
-    }
-    0 < two_at(b, i)
-}
-
-// Key and id of record i as one number, the key in the high half: records rise by it, whatever their keys and ids are.
-fn rank_at(b: &[u8], i: usize) -> u32
-    requires { place (i + 1) ≤ length b.now }
-    ensures { Pair (id b.now i) (key b.now i) result }
-{
-    let pair = pair_at(b, HEADER + RECORD * i);
-    NUMBERS * (pair % NUMBERS) + pair / NUMBERS
-}
 
 // What was seen of the records of a part, up to one of them: the least key and id, as one number, that the next may have; all keys and
 // ids, joined, the keys in the high half; and all counts that the records may not have, joined.
@@ -131,27 +29,90 @@ struct Sight {
     barred: usize,
 }
 
-// Record i has the least key and id or higher ones, and a count above zero.
-fn follows(b: &[u8], i: usize, least: usize) -> bool
-    requires { place (i + 1) ≤ length b.now }
-    ensures { Says (Follows b.now i least) result }
-{
-    if (rank_at(b, i) as usize) < least {
-        return false;
+impl Record<'_> {
+    // The counts of the four letters from k on, as one number: the eight bytes are looked at in one go.
+    fn four(self, k: usize) -> usize
+        requires { k + 4 ≤ letter_count }
+        ensures { result ≡ four_at self.entry.block.now self.entry.i k }
+    {
+        let at = HEADER + RECORD * self.i + 4 + 2 * k;
+        (pair_at(self.block, at) as usize) + PAIRS * (pair_at(self.block, at + 4) as usize)
     }
-    has_count(b, i)
-}
 
-// What was seen, and record i of the kind.
-fn look(b: &[u8], kind: Kind, i: usize, sight: Sight) -> Sight
-    requires { place (i + 1) ≤ length b.now }
-    ensures { SeesMore b.now kind i sight result }
-{
-    let rank = rank_at(b, i);
-    Sight {
-        least: (rank as usize) + 1,
-        names: sight.names | rank,
-        barred: sight.barred | barred_at(b, kind, i),
+    // The counts of the two markers, as one number.
+    pub(crate) fn two(self) -> usize
+        ensures { result ≡ two_at self.entry.block.now self.entry.i }
+    {
+        pair_at(self.block, HEADER + RECORD * self.i + 4 + 2 * MARKER_X) as usize
+    }
+
+    // The counts of the small letters, where the record may not have them as one of the kind, or none.
+    fn small(self, kind: Kind) -> usize
+        ensures { result ≡ small_at self.entry.block.now kind self.entry.i }
+    {
+        if may_have(kind, RIGHTS) {
+            0
+        } else {
+            self.four(RIGHTS)
+        }
+    }
+
+    // The counts of the markers, where the record may not have them as one of the kind, or none.
+    fn markers(self, kind: Kind) -> usize
+        ensures { result ≡ markers_at self.entry.block.now kind self.entry.i }
+    {
+        if may_have(kind, MARKER_X) {
+            0
+        } else {
+            self.two()
+        }
+    }
+
+    // The counts that the record may not have as one of the kind, joined.
+    fn barred(self, kind: Kind) -> usize
+        ensures { result ≡ barred_at self.entry.block.now kind self.entry.i }
+    {
+        self.small(kind) | self.markers(kind)
+    }
+
+    // The record has a count above zero. Mostly it has a capital letter.
+    fn has_count(self) -> bool
+        ensures { Says (Counted self.entry.block.now self.entry.i) result }
+    {
+        if self.four(0) != 0 {
+            return true;
+        }
+        if self.four(RIGHTS) != 0 {
+            return true;
+        }
+        0 < self.two()
+    }
+
+    // Key and id of the record as one number, the key in the high half: records rise by it, whatever their keys and ids are.
+    fn rank(self) -> u32
+        ensures { Pair (id self.entry.block.now self.entry.i) (key self.entry.block.now self.entry.i) result }
+    {
+        let pair = self.pair();
+        NUMBERS * (pair % NUMBERS) + pair / NUMBERS
+    }
+
+    // The record has the least key and id or higher ones, and a count above zero.
+    fn follows(self, least: usize) -> bool
+        ensures { Says (Follows self.entry.block.now self.entry.i least) result }
+    {
+        least <= self.rank() as usize && self.has_count()
+    }
+
+    // What was seen, and the record of the kind.
+    fn look(self, kind: Kind, sight: Sight) -> Sight
+        ensures { SeesMore self.entry.block.now kind self.entry.i sight result }
+    {
+        let rank = self.rank();
+        Sight {
+            least: (rank as usize) + 1,
+            names: sight.names | rank,
+            barred: sight.barred | self.barred(kind),
+        }
     }
 }
 
@@ -159,16 +120,13 @@ fn look(b: &[u8], kind: Kind, i: usize, sight: Sight) -> Sight
 fn fair(sight: Sight) -> bool
     ensures { Says (Fair sight) result }
 {
-    if sight.barred != 0 {
-        return false;
-    }
-    if sight.names / NUMBERS >= (NAMES as u32) {
-        return false;
-    }
-    sight.names % NUMBERS < (NAMES as u32)
+    sight.barred == 0
+        && sight.names / NUMBERS < (NAMES as u32)
+        && sight.names % NUMBERS < (NAMES as u32)
 }
 
-// The records numbered i to j - 1, as ones of the kind. They are looked at two at a time, and the last by itself where it has no other.
+// The records numbered i to j - 1, as ones of the kind. They are looked at two at a time, which is faster than one at a time, and the last by
+// itself where it has no other.
 fn part_good(b: &[u8], kind: Kind, i: usize, j: usize) -> bool
     requires { (place j ≤ length b.now) × (i ≤ j) }
     ensures { Says (Part b.now kind i j) result }
@@ -180,46 +138,69 @@ fn part_good(b: &[u8], kind: Kind, i: usize, j: usize) -> bool
         barred: 0,
     };
     while n + 1 < j {
-        if !follows(b, n, sight.least) {
+        let one = Record { block: b, i: n };
+        if !one.follows(sight.least) {
             return false;
         }
-        sight = look(b, kind, n, sight);
-        if !follows(b, n + 1, sight.least) {
+        sight = one.look(kind, sight);
+        let other = Record { block: b, i: n + 1 };
+        if !other.follows(sight.least) {
             return false;
         }
-        sight = look(b, kind, n + 1, sight);
+        sight = other.look(kind, sight);
         n += 2;
     }
-    while n < j {
-        if !follows(b, n, sight.least) {
+    if n < j {
+        let last = Record { block: b, i: n };
+        if !last.follows(sight.least) {
             return false;
         }
-        sight = look(b, kind, n, sight);
-        n += 1;
+        sight = last.look(kind, sight);
     }
     fair(sight)
-}
-
-// The records of the kind.
-fn kind_good(b: &[u8], kind: Kind) -> bool
-    requires { (header_length ≤ length b.now) × (place (records b.now) ≤ length b.now) }
-    ensures { Says (Part b.now kind (from b.now kind) (from b.now kind + size b.now kind)) result }
-{
-    let i = first_of(b, kind);
-    part_good(b, kind, i, i + size_at(b, kind))
 }
 
 // Every byte from j on is zero.
 fn zero_from(b: &[u8], j: usize) -> bool
     ensures { Says (Zero b.now j) result }
 {
-    let mut t = j;
     let mut seen = 0u8;
-    while t < b.len() {
+    for t in j..b.len() {
         seen |= b[t];
-        t += 1;
     }
     seen == 0
+}
+
+impl HeadedBlock<'_> {
+    // The header agrees with the parts, and the parts fit in the block.
+    fn header_good(self) -> bool
+        ensures { Says (Header self.entry.bytes.now) result }
+    {
+        let b = self.bytes;
+        let m = number_at(b, 0);
+        let p = number_at(b, 2);
+        let f = number_at(b, 4);
+        let zero = number_at(b, 6);
+        let m_offset = number_at(b, 8);
+        let p_offset = number_at(b, 10);
+        let f_offset = number_at(b, 12);
+        let end = number_at(b, 14);
+        zero == 0
+            && m_offset == HEADER
+            && p_offset == HEADER + RECORD * m
+            && f_offset == HEADER + RECORD * (m + p)
+            && end == HEADER + RECORD * (m + p + f)
+            && end <= b.len()
+    }
+
+    // The records of the kind.
+    fn kind_good(self, kind: Kind) -> bool
+        requires { place (records self.bytes.now) ≤ length self.bytes.now }
+        ensures { Says (Part self.entry.bytes.now kind (from self.entry.bytes.now kind)
+            (from self.entry.bytes.now kind + size self.entry.bytes.now kind)) result }
+    {
+        part_good(self.bytes, kind, self.first(kind), self.end(kind))
+    }
 }
 
 // The block is good.
@@ -227,33 +208,43 @@ fn good(b: &[u8]) -> bool
     requires { header_length ≤ length b.now }
     ensures { Says (Good b.now) result }
 {
-    if !header_good(b) {
+    let block = HeadedBlock { bytes: b };
+    if !block.header_good() {
         return false;
     }
-    if !kind_good(b, Kind::Membership) {
+    if !block.kind_good(Kind::Membership) {
         return false;
     }
-    if !kind_good(b, Kind::Permission) {
+    if !block.kind_good(Kind::Permission) {
         return false;
     }
-    if !kind_good(b, Kind::Filter) {
+    if !block.kind_good(Kind::Filter) {
         return false;
     }
     zero_from(b, number_at(b, 14))
 }
 
-// 1 for a block that is not 16 to 49,168 bytes long, 2 for one that is not good, else 0.
-pub fn tested(b: &[u8]) -> u8
-    ensures { Answers (block_needs b.now) result }
+// A block that is not 16 to 49,168 bytes long is refused, and then one that is not good.
+pub fn tested(b: &[u8]) -> Result<(), Refusal>
+    ensures { Answers (block_needs b.now) (number_of result) }
 {
     if b.len() < HEADER {
-        return 1;
+        return Err(Refusal::Length);
     }
     if b.len() > GREATEST {
-        return 1;
+        return Err(Refusal::Length);
     }
     if !good(b) {
-        return 2;
+        return Err(Refusal::NotGood);
     }
-    0
+    Ok(())
+}
+
+// The block as a good one, or its refusal.
+pub fn good_block(b: &[u8]) -> Result<GoodBlock<'_>, Refusal>
+    ensures number { Answers (block_needs b.now) (number_of result) }
+    ensures same { IfOk result (λ block. block.bytes.now ≡ b.now) }
+{
+    tested(b)?;
+    Ok(GoodBlock { bytes: b })
 }

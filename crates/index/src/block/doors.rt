@@ -8,12 +8,10 @@ ghost use Rattle.index.specs.Block.{number, size, key, id, count_at, Of, NetAt, 
 ghost use Rattle.index.specs.work.Checks.{Says};
 ghost use Rattle.index.specs.Calls.{PairOf, NetOf, CapitalsOf, DenialsOf, MarksOf, CountsX};
 
-use crate::block::checks::two_at;
 use crate::block::letters::{
     CAPITAL_M, CAPITAL_P, CAPITAL_R, CAPITAL_U, SMALL_M, SMALL_P, SMALL_R, SMALL_U, mask_of,
 };
-use crate::block::numbers::pair_at;
-use crate::block::records::count_at;
+use crate::block::record::Record;
 use crate::{HEADER, Kind, LETTER_COUNT, MARKER_X, RECORD, RIGHTS};
 
 // The 16-bit number at a byte.
@@ -22,7 +20,7 @@ fn number_of(b: &[u8], at: usize) -> u16
     ensures { result ≡ number b.now at }
 {
     if at + 1 < b.len() {
-        return (b[at] as u16) + 256 * (b[at + 1] as u16);
+        return u16::from_le_bytes([b[at], b[at + 1]]);
     }
     if at < b.len() {
         return b[at] as u16;
@@ -70,10 +68,7 @@ pub fn count_of(b: &[u8], i: u16, k: u8) -> u16
 fn whole_records(b: &[u8]) -> usize
     ensures { (i : ℕ) → (i < result) ↔ Has b.now i }
 {
-    if b.len() < HEADER {
-        return 0;
-    }
-    (b.len() - HEADER) / RECORD
+    b.len().saturating_sub(HEADER) / RECORD
 }
 
 // The block has all of record i.
@@ -88,40 +83,56 @@ pub fn pair_of(b: &[u8], i: usize) -> usize
     ensures { PairOf b.now i result }
 {
     if whole(b, i) {
-        return pair_at(b, HEADER + RECORD * i) as usize;
+        Record { block: b, i }.pair() as usize
+    } else {
+        0
     }
-    0
 }
 
-// Letter k has a count above zero in record i.
-fn above_zero(b: &[u8], i: usize, k: u8) -> bool
-    requires { Has b.now i × (k < letter_count) }
-    ensures { Says (0 < count_at b.now i k) result }
-{
-    0 < count_at(b, i, k as usize)
-}
+impl Record<'_> {
+    // Letter k has a count above zero in the record.
+    fn above_zero(self, k: u8) -> bool
+        requires { k < letter_count }
+        ensures { Says (0 < count_at self.entry.block.now self.entry.i k) result }
+    {
+        0 < self.count(k as usize)
+    }
 
-// The net mask of record i: "its capital letters with a count above zero, less those whose small letter has a count above zero".
-// M-104: "Write it out as four plain decisions, one a right, as 01's sentence has it." Both counts are looked at (`&`, not `&&`),
-// which leaves the processor nothing to guess.
-fn net_at(b: &[u8], i: usize) -> u8
-    requires { Has b.now i }
-    ensures { Mask result (NetAt b.now i) }
-{
-    let mut net: u8 = 0;
-    if above_zero(b, i, CAPITAL_M) & !above_zero(b, i, SMALL_M) {
-        net = net | mask_of(CAPITAL_M);
+    // The net mask of the record: "its capital letters with a count above zero, less those whose small letter has a count above zero".
+    // M-104: "Write it out as four plain decisions, one a right, as 01's sentence has it." Both counts are looked at (`&`, not `&&`),
+    // which leaves the processor nothing to guess.
+    fn net(self) -> u8
+        ensures { Mask result (NetAt self.entry.block.now self.entry.i) }
+    {
+        let mut net: u8 = 0;
+        if self.above_zero(CAPITAL_M) & !self.above_zero(SMALL_M) {
+            net = net | mask_of(CAPITAL_M);
+        }
+        if self.above_zero(CAPITAL_R) & !self.above_zero(SMALL_R) {
+            net = net | mask_of(CAPITAL_R);
+        }
+        if self.above_zero(CAPITAL_U) & !self.above_zero(SMALL_U) {
+            net = net | mask_of(CAPITAL_U);
+        }
+        if self.above_zero(CAPITAL_P) & !self.above_zero(SMALL_P) {
+            net = net | mask_of(CAPITAL_P);
+        }
+        net
     }
-    if above_zero(b, i, CAPITAL_R) & !above_zero(b, i, SMALL_R) {
-        net = net | mask_of(CAPITAL_R);
+
+    // Which of the four letters from `first` on the record counts, as a mask of rights: the capital letters, or the small ones.
+    fn counted(self, first: u8) -> u8
+        requires { first ≤ right_count }
+        ensures { Mask result (λ k. 0 < count_at self.entry.block.now self.entry.i (k + first)) }
+    {
+        let mut mask: u8 = 0;
+        for k in 0..RIGHTS as u8 {
+            if self.above_zero(k + first) {
+                mask = mask | mask_of(k);
+            }
+        }
+        mask
     }
-    if above_zero(b, i, CAPITAL_U) & !above_zero(b, i, SMALL_U) {
-        net = net | mask_of(CAPITAL_U);
-    }
-    if above_zero(b, i, CAPITAL_P) & !above_zero(b, i, SMALL_P) {
-        net = net | mask_of(CAPITAL_P);
-    }
-    net
 }
 
 // The net mask of record i; 0 where the block has not all of it.
@@ -129,25 +140,10 @@ pub fn net_of(b: &[u8], i: usize) -> u8
     ensures { NetOf b.now i result }
 {
     if whole(b, i) {
-        return net_at(b, i);
+        Record { block: b, i }.net()
+    } else {
+        0
     }
-    0
-}
-
-// Which of the four letters from `first` on record i counts, as a mask of rights: the capital letters, or the small ones.
-fn counted_at(b: &[u8], i: usize, first: u8) -> u8
-    requires { Has b.now i × (first ≤ right_count) }
-    ensures { Mask result (λ k. 0 < count_at b.now i (k + first)) }
-{
-    let mut mask: u8 = 0;
-    let mut k: u8 = 0;
-    while k < RIGHTS as u8 {
-        if above_zero(b, i, k + first) {
-            mask = mask | mask_of(k);
-        }
-        k += 1;
-    }
-    mask
 }
 
 // The capital letters that record i counts, as a mask; 0 where the block has not all of it.
@@ -155,9 +151,10 @@ pub fn capitals_of(b: &[u8], i: usize) -> u8
     ensures { CapitalsOf b.now i result }
 {
     if whole(b, i) {
-        return counted_at(b, i, CAPITAL_M);
+        Record { block: b, i }.counted(CAPITAL_M)
+    } else {
+        0
     }
-    0
 }
 
 // The rights whose small letter record i counts, as a mask; 0 where the block has not all of it.
@@ -165,9 +162,10 @@ pub fn denials_of(b: &[u8], i: usize) -> u8
     ensures { DenialsOf b.now i result }
 {
     if whole(b, i) {
-        return counted_at(b, i, SMALL_M);
+        Record { block: b, i }.counted(SMALL_M)
+    } else {
+        0
     }
-    0
 }
 
 // The counts of X and N in record i, as one number; 0 where the block has not all of it.
@@ -175,21 +173,17 @@ pub fn marks_of(b: &[u8], i: usize) -> usize
     ensures { MarksOf b.now i result }
 {
     if whole(b, i) {
-        return two_at(b, i);
+        Record { block: b, i }.two()
+    } else {
+        0
     }
-    0
 }
 
 // How many M records the block has all of.
 fn whole_members(b: &[u8]) -> usize
     ensures { (i : ℕ) → (i < result) ↔ (Of b.now Membership i × Has b.now i) }
 {
-    let all = whole_records(b);
-    let size = size_of(b, Kind::Membership) as usize;
-    if size < all {
-        return size;
-    }
-    all
+    whole_records(b).min(size_of(b, Kind::Membership) as usize)
 }
 
 // Some M record counts X. All their counts of X are joined, and one look at the end tells.
@@ -198,10 +192,8 @@ pub fn counts_x(b: &[u8]) -> bool
 {
     let end = whole_members(b);
     let mut seen = 0;
-    let mut i = 0;
-    while i < end {
-        seen |= count_at(b, i, MARKER_X);
-        i += 1;
+    for i in 0..end {
+        seen |= Record { block: b, i }.count(MARKER_X);
     }
     0 < seen
 }

@@ -89,8 +89,7 @@ pub(crate) fn mask_of(k: u8) -> u8
     requires { k < right_count }
     ensures { result ≡ 2 ^ k }
 {
-    let letter = letter_at(k as usize);
-    letter.mask as u8
+    letter_at(k as usize).mask as u8
 }
 
 // The mask of the capital letters, of all eight letters, and of the capital letters with the two markers.
@@ -131,39 +130,31 @@ pub(crate) fn table_bytes() -> [u8; LETTER_COUNT]
     ensures { TableBytes result }
 {
     let mut bytes = [0u8; LETTER_COUNT];
-    let mut k = 0;
-    while k < LETTER_COUNT {
-        let letter = letter_at(k);
-        bytes[k] = letter.byte;
-        k += 1;
+    for k in 0..LETTER_COUNT {
+        bytes[k] = letter_at(k).byte;
     }
     bytes
 }
 
-// No byte is this number.
-const NO_BYTE: u16 = 256;
-
 // The byte of letter k, if a record of the kind may have it.
-fn byte_of(kind: Kind, k: usize) -> u16
+fn byte_of(kind: Kind, k: usize) -> Option<u8>
     requires { k < letter_count }
     ensures { result ≡ byte_of kind k }
 {
     if may_have(kind, k) {
-        let letter = letter_at(k);
-        return letter.byte as u16;
+        Some(letter_at(k).byte)
+    } else {
+        None
     }
-    NO_BYTE
 }
 
 // The bytes of all letters, as a record of the kind may have them. A reader takes them from the table once for a text.
-pub(crate) fn letter_bytes(kind: Kind) -> [u16; LETTER_COUNT]
+pub(crate) fn letter_bytes(kind: Kind) -> [Option<u8>; LETTER_COUNT]
     ensures { (length result ≡ letter_count) × BytesOf kind result }
 {
-    let mut bytes = [NO_BYTE; LETTER_COUNT];
-    let mut k = 0;
-    while k < LETTER_COUNT {
+    let mut bytes = [None; LETTER_COUNT];
+    for k in 0..LETTER_COUNT {
         bytes[k] = byte_of(kind, k);
-        k += 1;
     }
     bytes
 }

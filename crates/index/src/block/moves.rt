@@ -1,13 +1,13 @@
 // Bytes and the header are moved to where a change of records wants them.
 
-ghost use Rattle.std.specs.Prelude.{◌+◌, ◌-◌, ◌*◌, ◌<◌, ◌≤◌, length, get_or};
+ghost use Rattle.std.specs.Prelude.{◌+◌, ◌-◌, ◌*◌, ◌<◌, ◌≤◌, length};
 ghost use Rattle.index.specs.Block.{header_length, greatest_length, record_length, place, size, records};
 ghost use Rattle.index.specs.work.Bytes.{Four, Shifted, Spliced};
 ghost use Rattle.index.specs.work.Checks.{Zero};
 ghost use Rattle.index.specs.work.Edits.{Overwritten, Headed, Resized, Opens};
 
+use crate::block::headed::HeadedBlock;
 use crate::block::numbers::{number_at, put_number};
-use crate::block::places::size_at;
 use crate::{HEADER, Kind, RECORD};
 
 // The bytes lo to hi - 1 become zero.
@@ -15,35 +15,7 @@ pub(crate) fn clear(b: &mut [u8], lo: usize, hi: usize)
     requires { (lo ≤ hi) × (hi ≤ length b.old) }
     ensures { Overwritten lo hi (λ u. 0) b.old b.new }
 {
-    let mut t = lo;
-    while t < hi {
-        b[t] = 0;
-        t += 1;
-    }
-}
-
-// The bytes lo to hi - 1 become those that stand d places higher.
-fn move_down(b: &mut [u8], lo: usize, hi: usize, d: usize)
-    requires { (lo ≤ hi) × (hi + d ≤ length b.old) }
-    ensures { Overwritten lo hi (λ u. get_or b.old (u + d) 0) b.old b.new }
-{
-    let mut t = lo;
-    while t < hi {
-        b[t] = b[t + d];
-        t += 1;
-    }
-}
-
-// The bytes lo to hi - 1 become those that stand d places lower.
-fn move_up(b: &mut [u8], lo: usize, hi: usize, d: usize)
-    requires { (lo ≤ hi) × (hi ≤ length b.old) × (d ≤ lo) }
-    ensures { Overwritten lo hi (λ u. get_or b.old (u - d) 0) b.old b.new }
-{
-    let mut t = hi;
-    while lo < t {
-        t -= 1;
-        b[t] = b[t - d];
-    }
+    b[lo..hi].fill(0);
 }
 
 // The bytes from p on, which are zero from `end` on, go to q and after it.
@@ -51,13 +23,11 @@ pub(crate) fn shift(b: &mut [u8], p: usize, q: usize, end: usize)
     requires { (p ≤ end) × (end ≤ length b.old) × (q + (end - p) ≤ length b.old) × Zero b.old end }
     ensures { Shifted p q b.old b.new }
 {
-    if p < q {
-        move_up(b, q, q + (end - p), q - p);
-        return;
-    }
+    b.copy_within(p..end, q);
     let last = q + (end - p);
-    move_down(b, q, last, p - q);
-    clear(b, last, end);
+    if last < end {
+        clear(b, last, end);
+    }
 }
 
 // Four numbers, one after the other from byte i on.
@@ -103,7 +73,7 @@ pub(crate) fn splice(b: &mut [u8], kind: Kind, j: usize, n: usize, m: usize)
     ensures { Spliced kind j n m b.old b.new }
 {
     let end = number_at(b, 14);
-    let size = size_at(b, kind);
+    let size = HeadedBlock { bytes: b }.size(kind);
     shift(b, HEADER + RECORD * (j + n), HEADER + RECORD * (j + m), end);
     resize(b, kind, size + m - n);
 }

@@ -1,37 +1,13 @@
-// A record in a block: its key, its id and its counts, each a number, read and written.
+// A record in a block is written: its key, its id and its counts, each a number.
 
 ghost use Rattle.std.specs.Prelude.{◌≡◌, ℕ, ◌+◌, ◌*◌, ◌<◌, ◌≤◌, length, get_or};
 ghost use Rattle.index.specs.Letters.{letter_count};
-ghost use Rattle.index.specs.Block.{place, key, id, count_at};
-ghost use Rattle.index.specs.work.Bytes.{Put, Num};
+ghost use Rattle.index.specs.Block.{place};
+ghost use Rattle.index.specs.work.Bytes.{Put};
 ghost use Rattle.index.specs.work.Written.{Entered};
 
-use crate::block::numbers::{number_at, put_number};
+use crate::block::numbers::put_number;
 use crate::{HEADER, LETTER_COUNT, RECORD};
-
-// The key of record i.
-pub(crate) fn key_at(b: &[u8], i: usize) -> usize
-    requires { place (i + 1) ≤ length b.now }
-    ensures { Num (key b.now i) result }
-{
-    number_at(b, HEADER + RECORD * i)
-}
-
-// The id of record i.
-pub(crate) fn id_at(b: &[u8], i: usize) -> usize
-    requires { place (i + 1) ≤ length b.now }
-    ensures { Num (id b.now i) result }
-{
-    number_at(b, HEADER + RECORD * i + 2)
-}
-
-// The count of letter k in record i.
-pub(crate) fn count_at(b: &[u8], i: usize, k: usize) -> usize
-    requires { (place (i + 1) ≤ length b.now) × (k < letter_count) }
-    ensures { Num (count_at b.now i k) result }
-{
-    number_at(b, HEADER + RECORD * i + 4 + 2 * k)
-}
 
 // Write n as the count of letter k in record i.
 pub(crate) fn put_count(b: &mut [u8], i: usize, k: usize, n: usize)
@@ -56,9 +32,7 @@ pub(crate) fn put_entry(
     let at = HEADER + RECORD * i;
     put_number(b, at, key);
     put_number(b, at + 2, name);
-    let mut k = 0;
-    while k < LETTER_COUNT {
-        put_number(b, at + 4 + 2 * k, counts[k]);
-        k += 1;
+    for (k, count) in counts.iter().enumerate() {
+        put_number(b, at + 4 + 2 * k, *count);
     }
 }

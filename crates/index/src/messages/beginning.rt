@@ -1,36 +1,33 @@
 // The first two bytes of a message, plain or wide: its kind, which halves are present, and their markers.
 
-ghost use Rattle.std.specs.Prelude.{◌≡◌, ◌<◌, length};
+ghost use Rattle.std.specs.Prelude.{◌≡◌, ◌<◌, eqb, length};
 ghost use Rattle.index.specs.Message.{kind_of, half_count, kind_in, present, markers, Marked, Begun};
 ghost use Rattle.index.specs.work.Checks.{Says};
+ghost use Rattle.index.specs.work.Halves.{half_number};
 
-// The numbers of the halves.
-pub(crate) const PREVIOUS: usize = 0;
+use crate::Kind;
 
-pub(crate) const NEW: usize = 1;
-
-// Half h of a message is present.
-pub(crate) fn is_present(m: &[u8], h: usize) -> bool
-    requires { (1 < length m.now) × (h < half_count) }
-    ensures { result ≡ present m.now h }
-{
-    (m[1] >> h) % 2 == 1
+// One of the two halves of a message.
+#[derive(Clone, Copy)]
+pub(crate) enum Which {
+    Previous,
+    New,
 }
 
-// The number of a message's kind: the low four bits of the kind byte.
-pub(crate) fn kind_in(m: &[u8]) -> u64
-    requires { 1 < length m.now }
-    ensures { (result ≡ kind_in m.now) × (result < 16) }
-{
-    (m[0] % 16) as u64
-}
+impl Which {
+    // Its number.
+    pub(crate) fn number(self) -> usize
+        ensures { (result ≡ half_number self) × (result < half_count) }
+    {
+        self as usize
+    }
 
-// The markers of half h of a message: 0 for none, 1 for X, 2 for N, 3 for both.
-pub(crate) fn markers_of(m: &[u8], h: usize) -> usize
-    requires { (1 < length m.now) × (h < half_count) }
-    ensures { (result ≡ markers m.now h) × (result < 4) }
-{
-    ((m[0] >> (6 - 2 * h)) % 4) as usize
+    // It is the new half, which is added; the previous one is taken away.
+    pub(crate) fn is_new(self) -> bool
+        ensures { result ≡ eqb (half_number self) 1 }
+    {
+        matches!(self, Which::New)
+    }
 }
 
 // A half of this kind may have these markers: none, or one if it is present and of kind 1.
@@ -49,35 +46,62 @@ pub(crate) fn is_marked(markers: usize, kind: u64, there: bool) -> bool
     there
 }
 
-// Half h may have its markers.
-fn markers_good(m: &[u8], h: usize) -> bool
-    requires { (1 < length m.now) × (h < half_count) }
-    ensures { Says (Marked (markers m.now h) (kind_of (kind_in m.now)) (present m.now h)) result }
-{
-    is_marked(markers_of(m, h), kind_in(m), is_present(m, h))
+// The bytes of a message, plain or wide, that has its first two.
+#[derive(Clone, Copy)]
+pub(crate) struct HeadedMessage<'a> {
+    pub(crate) bytes: &'a [u8],
+    ghost headed: { 1 < length bytes.now },
 }
 
-// Kind, flags and markers are right.
-pub(crate) fn begun(m: &[u8]) -> bool
-    requires { 1 < length m.now }
-    ensures { Says (Begun m.now) result }
-{
-    let kind = kind_in(m);
-    if kind < 1 {
-        return false;
+impl HeadedMessage<'_> {
+    // The half is present.
+    pub(crate) fn is_present(self, h: Which) -> bool
+        ensures { result ≡ present self.entry.bytes.now (half_number h) }
+    {
+        (self.bytes[1] >> h.number()) % 2 == 1
     }
-    if kind > 3 {
-        return false;
+
+    // The number of the message's kind: the low four bits of the kind byte.
+    pub(crate) fn kind_in(self) -> u64
+        ensures { (result ≡ kind_in self.entry.bytes.now) × (result < 16) }
+    {
+        (self.bytes[0] % 16) as u64
     }
-    let flags = m[1];
-    if flags < 1 {
-        return false;
+
+    // The markers of the half: 0 for none, 1 for X, 2 for N, 3 for both.
+    pub(crate) fn markers_of(self, h: Which) -> usize
+        ensures { (result ≡ markers self.entry.bytes.now (half_number h)) × (result < 4) }
+    {
+        ((self.bytes[0] >> (6 - 2 * h.number())) % 4) as usize
     }
-    if flags > 3 {
-        return false;
+
+    // The half may have its markers.
+    fn markers_good(self, h: Which) -> bool
+        ensures { Says
+            (Marked (markers self.entry.bytes.now (half_number h)) (kind_of (kind_in self.entry.bytes.now))
+            (present self.entry.bytes.now (half_number h)))
+            result }
+    {
+        is_marked(self.markers_of(h), self.kind_in(), self.is_present(h))
     }
-    if !markers_good(m, PREVIOUS) {
-        return false;
+
+    // Kind, flags and markers are right.
+    pub(crate) fn begun(self) -> bool
+        ensures { Says (Begun self.entry.bytes.now) result }
+    {
+        if Kind::try_from(self.kind_in()).is_err() {
+            return false;
+        }
+        let flags = self.bytes[1];
+        if flags < 1 {
+            return false;
+        }
+        if flags > 3 {
+            return false;
+        }
+        if !self.markers_good(Which::Previous) {
+            return false;
+        }
+        self.markers_good(Which::New)
     }
-    markers_good(m, NEW)
 }

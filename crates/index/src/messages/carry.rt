@@ -1,43 +1,49 @@
 // The halves of a plain message are carried out: one by itself, both as two changes.
 
-ghost use Rattle.std.specs.Prelude.{◌≡◌, ◌<◌, eqb, length};
-ghost use Rattle.index.specs.Message.{message_length, half_count, half_at, previous, new, changes, Carried, packed_change};
+ghost use Rattle.std.specs.Prelude.{◌≡◌, eqb};
+ghost use Rattle.index.specs.Numbers.{number_of};
+ghost use Rattle.index.specs.Message.{half_at, previous, new, changes, Carried, packed_change};
 ghost use Rattle.index.specs.Wide.Sent.{plain};
 ghost use Rattle.index.specs.work.Edits.{change_of, Tested};
+ghost use Rattle.index.specs.work.Halves.{half_number};
 
-use crate::block::kinds::kind_of;
-use crate::messages::beginning::{NEW, PREVIOUS, is_present};
+use crate::Refusal;
+use crate::messages::beginning::Which;
 use crate::messages::edits::{put_in, take_away};
-use crate::messages::halves::half_at;
+use crate::messages::halves::TwelveBytes;
 use crate::messages::run::{pack, run_both};
 
-// Half h of a message as a change of a list: the previous half is taken away, the new one added.
-fn change_at(m: &[u8], h: usize) -> u64
-    requires { (length m.now ≡ message_length) × (h < half_count) }
-    ensures { packed_change result ≡ change_of (eqb h 1) (half_at m.now h) }
-{
-    let half = half_at(m, h);
-    pack(
-        h == NEW,
-        half.kind as u8,
-        half.x as u16,
-        half.y as u16,
-        half.mask as u16,
-    )
+impl TwelveBytes<'_> {
+    // The half as a change of a list: the previous half is taken away, the new one added.
+    fn change_at(self, h: Which) -> u64
+        ensures { packed_change result ≡ change_of (eqb (half_number h) 1) (half_at self.entry.bytes.now (half_number h)) }
+    {
+        let half = self.half_at(h);
+        pack(
+            h.is_new(),
+            half.kind.number(),
+            half.key as u16,
+            half.id as u16,
+            half.mask as u16,
+        )
+    }
 }
 
 // The halves that are present of a message whose tests have passed.
-pub(crate) fn carry(b: &mut [u8], m: &[u8]) -> u8
+pub(crate) fn carry(b: &mut [u8], m: &[u8]) -> Result<(), Refusal>
     requires { Tested b.old (plain m.now) }
-    ensures { Carried b.old (changes (previous m.now) (new m.now)) b.old (result, b.new) }
+    ensures { Carried b.old (changes (previous m.now) (new m.now)) b.old (number_of result, b.new) }
 {
-    if !is_present(m, NEW) {
-        let h = half_at(m, PREVIOUS);
-        return take_away(b, kind_of(h.kind), h.x, h.y, h.mask);
+    let message = TwelveBytes { bytes: m };
+    if !message.is_present(Which::New) {
+        return take_away(b, message.half_at(Which::Previous));
     }
-    if !is_present(m, PREVIOUS) {
-        let h = half_at(m, NEW);
-        return put_in(b, kind_of(h.kind), h.x, h.y, h.mask);
+    if !message.is_present(Which::Previous) {
+        return put_in(b, message.half_at(Which::New));
     }
-    run_both(b, change_at(m, PREVIOUS), change_at(m, NEW))
+    run_both(
+        b,
+        message.change_at(Which::Previous),
+        message.change_at(Which::New),
+    )
 }

@@ -1,76 +1,81 @@
 // A list of changes from a crate above: its tests, and what it does.
 
-ghost use Rattle.index.specs.Numbers.{Answers, Each};
+ghost use Rattle.index.specs.Numbers.{number_of, Answers, Each};
+ghost use Rattle.index.specs.Message.{packed_half, PackedWell, Named, Masked};
 ghost use Rattle.index.specs.Calls.{list_needs, CarriesOut};
 ghost use Rattle.index.specs.work.Checks.{Says};
-ghost use Rattle.index.specs.work.Edits.{PassesTest};
 
 use crate::block::checks::tested;
 use crate::messages::beginning::is_marked;
 use crate::messages::halves::{is_masked, is_named, markers_in};
-use crate::messages::run::{half_in, run};
+use crate::messages::run::{half_in, kind_number_in, run};
+use crate::{Kind, Refusal};
 
-// One change passes the test of this number: 3 its kind and its markers, 4 its names, 5 its mask.
-fn passes(test: u8, n: u64) -> bool
-    ensures { Says (PassesTest test n) result }
+// The change has a kind, and its markers are those that it may have.
+fn is_formed(n: u64) -> bool
+    ensures { Says (PackedWell n) result }
 {
-    let h = half_in(n);
-    if test == 3 {
-        if h.kind < 1 {
-            return false;
-        }
-        if h.kind > 3 {
-            return false;
-        }
-        return is_marked(markers_in(h), h.kind, true);
+    let kind = kind_number_in(n);
+    if Kind::try_from(kind).is_err() {
+        return false;
     }
-    if test == 4 {
-        return is_named(h);
-    }
-    is_masked(h)
+    is_marked(markers_in(half_in(n)), kind, true)
 }
 
-// Each change of the list passes the test.
-fn all_pass(test: u8, changes: &[u64]) -> bool
-    ensures { Says (Each (PassesTest test) changes.now) result }
+// Its names are below 1024.
+fn has_names(n: u64) -> bool
+    ensures { Says (Named (packed_half n)) result }
 {
-    let mut i = 0;
-    while i < changes.len() {
-        if !passes(test, changes[i]) {
-            return false;
-        }
-        i += 1;
-    }
-    true
+    is_named(half_in(n))
 }
 
-// The tests 1 to 5.
-fn list_refused(block: &[u8], changes: &[u64]) -> u8
-    ensures { Answers (list_needs block.now changes.now) result }
+// Its mask is good.
+fn has_mask(n: u64) -> bool
+    ensures { Says (Masked (packed_half n)) result }
 {
-    let number = tested(block);
-    if number != 0 {
-        return number;
+    is_masked(half_in(n))
+}
+
+// Each change has a kind and its markers, or names, or a good mask.
+fn all_formed(changes: &[u64]) -> bool
+    ensures { Says (Each PackedWell changes.now) result }
+{
+    changes.iter().all(|n| is_formed(*n))
+}
+
+fn all_named(changes: &[u64]) -> bool
+    ensures { Says (Each (λ n. Named (packed_half n)) changes.now) result }
+{
+    changes.iter().all(|n| has_names(*n))
+}
+
+fn all_masked(changes: &[u64]) -> bool
+    ensures { Says (Each (λ n. Masked (packed_half n)) changes.now) result }
+{
+    changes.iter().all(|n| has_mask(*n))
+}
+
+// The tests of the block, and then of the changes.
+fn list_refused(block: &[u8], changes: &[u64]) -> Result<(), Refusal>
+    ensures { Answers (list_needs block.now changes.now) (number_of result) }
+{
+    tested(block)?;
+    if !all_formed(changes) {
+        return Err(Refusal::Form);
     }
-    if !all_pass(3, changes) {
-        return 3;
+    if !all_named(changes) {
+        return Err(Refusal::Name);
     }
-    if !all_pass(4, changes) {
-        return 4;
+    if !all_masked(changes) {
+        return Err(Refusal::Mask);
     }
-    if !all_pass(5, changes) {
-        return 5;
-    }
-    0
+    Ok(())
 }
 
 // The changes of the list, or nothing of them.
-pub fn carry_out(block: &mut [u8], changes: &[u64]) -> u8
-    ensures { CarriesOut block.old changes.now (result, block.new) }
+pub fn carry_out(block: &mut [u8], changes: &[u64]) -> Result<(), Refusal>
+    ensures { CarriesOut block.old changes.now (number_of result, block.new) }
 {
-    let number = list_refused(block, changes);
-    if number != 0 {
-        return number;
-    }
+    list_refused(block, changes)?;
     run(block, changes)
 }

@@ -1,14 +1,16 @@
-// The four lists of names in a wide message, by their number: those of half h are 2 h, its keys, and 2 h + 1, its ids.
+// The four lists of names in a wide message, by their number.
 
 ghost use Rattle.std.specs.Prelude.{◌≡◌, ◌+◌, ◌*◌, ◌<◌, ◌≤◌, length};
 ghost use Rattle.index.specs.Block.{IsName};
 ghost use Rattle.index.specs.Numbers.{Each};
 ghost use Rattle.index.specs.Wide.{wide_header, list_count, list_length, list_offset, names_from, names, Rising, ListGood};
 ghost use Rattle.index.specs.work.Checks.{Says};
+ghost use Rattle.index.specs.work.Halves.{half_number};
 ghost use Rattle.index.specs.work.Pairing.{InPlace};
 
 use crate::NAMES;
 use crate::block::numbers::number_at;
+use crate::messages::beginning::Which;
 
 // How many bytes the header has, and where the lengths of the lists, the masks of the halves and the offsets of the lists stand in it.
 pub(crate) const FRONT: usize = 16;
@@ -24,37 +26,56 @@ const LISTS: usize = 4;
 
 pub(crate) const LONGEST: usize = 8;
 
-// How many names list q has.
-pub(crate) fn length_at(m: &[u8], q: usize) -> usize
-    requires { (wide_header ≤ length m.now) × (q < list_count) }
-    ensures { (result ≡ list_length m.now q) × (result < 256) }
+// The number of the list of the half's keys, and that of its ids.
+pub(crate) fn keys_of(h: Which) -> usize
+    ensures { (result ≡ 2 * half_number h) × (result < list_count) }
 {
-    m[LENGTHS + q] as usize
+    2 * h.number()
 }
 
-// Where list q begins, as the header says.
-pub(crate) fn offset_at(m: &[u8], q: usize) -> usize
-    requires { (wide_header ≤ length m.now) × (q < list_count) }
-    ensures { (result ≡ list_offset m.now q) × (result < 65536) }
+pub(crate) fn ids_of(h: Which) -> usize
+    ensures { (result ≡ 2 * half_number h + 1) × (result < list_count) }
 {
-    number_at(m, OFFSETS + 2 * q)
+    2 * h.number() + 1
 }
 
-// The lists follow each other without gaps, up to the end of the message.
-pub(crate) fn in_place(m: &[u8]) -> bool
-    requires { wide_header ≤ length m.now }
-    ensures { Says (InPlace m.now) result }
-{
-    let mut place = FRONT;
-    let mut q = 0;
-    while q < LISTS {
-        if offset_at(m, q) != place {
-            return false;
-        }
-        place += 2 * length_at(m, q);
-        q += 1;
+// The bytes of a wide message that has all of its header.
+#[derive(Clone, Copy)]
+pub(crate) struct WideHeader<'a> {
+    pub(crate) bytes: &'a [u8],
+    ghost header: { wide_header ≤ length bytes.now },
+}
+
+impl WideHeader<'_> {
+    // How many names list q has.
+    pub(crate) fn length_at(self, q: usize) -> usize
+        requires { q < list_count }
+        ensures { (result ≡ list_length self.entry.bytes.now q) × (result < 256) }
+    {
+        self.bytes[LENGTHS + q] as usize
     }
-    m.len() == place
+
+    // Where list q begins, as the header says.
+    pub(crate) fn offset_at(self, q: usize) -> usize
+        requires { q < list_count }
+        ensures { (result ≡ list_offset self.entry.bytes.now q) × (result < 65536) }
+    {
+        number_at(self.bytes, OFFSETS + 2 * q)
+    }
+
+    // The lists follow each other without gaps, up to the end of the message.
+    pub(crate) fn in_place(self) -> bool
+        ensures { Says (InPlace self.entry.bytes.now) result }
+    {
+        let mut place = FRONT;
+        for q in 0..LISTS {
+            if self.offset_at(q) != place {
+                return false;
+            }
+            place += 2 * self.length_at(q);
+        }
+        self.bytes.len() == place
+    }
 }
 
 // The n names from byte `at` on rise strictly.
@@ -62,45 +83,46 @@ fn rises(m: &[u8], at: usize, n: usize) -> bool
     requires { at + 2 * n ≤ length m.now }
     ensures { Says (Rising (names_from m.now at n)) result }
 {
-    let mut i = 0;
-    while i + 1 < n {
-        let name = number_at(m, at + 2 * i);
-        if name >= number_at(m, at + 2 * (i + 1)) {
+    for i in 1..n {
+        let name = number_at(m, at + 2 * (i - 1));
+        if name >= number_at(m, at + 2 * i) {
             return false;
         }
-        i += 1;
     }
     true
 }
 
-// List q is not empty, not too long, and rises strictly.
-pub(crate) fn list_good(m: &[u8], q: usize) -> bool
-    requires { InPlace m.now × (q < list_count) }
-    ensures { Says (ListGood m.now q) result }
-{
-    let n = length_at(m, q);
-    if n < 1 {
-        return false;
-    }
-    if n > LONGEST {
-        return false;
-    }
-    rises(m, offset_at(m, q), n)
+// The bytes of a wide message whose lists follow each other up to its end.
+#[derive(Clone, Copy)]
+pub(crate) struct WideLists<'a> {
+    pub(crate) bytes: &'a [u8],
+    ghost placed: { InPlace bytes.now },
 }
 
-// Each name of list q is below 1024.
-pub(crate) fn all_names(m: &[u8], q: usize) -> bool
-    requires { InPlace m.now × (q < list_count) }
-    ensures { Says (Each IsName (names m.now q)) result }
-{
-    let at = offset_at(m, q);
-    let n = length_at(m, q);
-    let mut i = 0;
-    while i < n {
-        if number_at(m, at + 2 * i) >= NAMES {
-            return false;
-        }
-        i += 1;
+impl WideLists<'_> {
+    // List q is not empty, not too long, and rises strictly.
+    pub(crate) fn list_good(self, q: usize) -> bool
+        requires { q < list_count }
+        ensures { Says (ListGood self.entry.bytes.now q) result }
+    {
+        let header = WideHeader { bytes: self.bytes };
+        let n = header.length_at(q);
+        1 <= n && n <= LONGEST && rises(self.bytes, header.offset_at(q), n)
     }
-    true
+
+    // Each name of list q is below 1024.
+    pub(crate) fn all_names(self, q: usize) -> bool
+        requires { q < list_count }
+        ensures { Says (Each IsName (names self.entry.bytes.now q)) result }
+    {
+        let header = WideHeader { bytes: self.bytes };
+        let at = header.offset_at(q);
+        let n = header.length_at(q);
+        for i in 0..n {
+            if number_at(self.bytes, at + 2 * i) >= NAMES {
+                return false;
+            }
+        }
+        true
+    }
 }

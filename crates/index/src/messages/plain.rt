@@ -1,35 +1,55 @@
 // A plain message: its tests, and what it does.
 
-ghost use Rattle.std.specs.Prelude.{◌≡◌, false, ◌++◌, ◌<◌, length};
-ghost use Rattle.index.specs.Numbers.{Answers, Each};
-ghost use Rattle.index.specs.Message.{message_length, half_count, present, halves, previous, new, Blank, WellFormed, Named, Masked};
+ghost use Rattle.std.specs.Prelude.{◌≡◌, false};
+ghost use Rattle.index.specs.Numbers.{number_of, Each};
+ghost use Rattle.index.specs.Message.{present, halves, Blank, WellFormed, Named, Masked};
 ghost use Rattle.index.specs.Wide.Sent.{plain};
-ghost use Rattle.index.specs.Calls.{sent_needs, Message};
+ghost use Rattle.index.specs.Calls.{Message as Messages};
 ghost use Rattle.index.specs.work.Checks.{Says};
+ghost use Rattle.index.specs.work.Halves.{half_number};
 
-use crate::MESSAGE;
-use crate::block::checks::tested;
-use crate::messages::beginning::{NEW, PREVIOUS, begun, is_present};
+use crate::messages::beginning::{HeadedMessage, Which};
 use crate::messages::carry::carry;
-use crate::messages::halves::{FIRST, HALF, half_at, is_masked, is_named};
+use crate::messages::halves::{FIRST, HALF, TwelveBytes, is_masked, is_named};
+use crate::messages::sending::{Message, send};
+use crate::{MESSAGE, Refusal};
 
-// Half h is five zero bytes, unless it is present.
-fn blank(m: &[u8], h: usize) -> bool
-    requires { (length m.now ≡ message_length) × (h < half_count) }
-    ensures { Says (present m.now h ≡ false → Blank m.now h) result }
-{
-    if is_present(m, h) {
-        return true;
-    }
-    let i = FIRST + HALF * h;
-    let mut j = 0;
-    while j < HALF {
-        if m[i + j] != 0 {
-            return false;
+impl TwelveBytes<'_> {
+    // The half is five zero bytes, unless it is present.
+    fn blank(self, h: Which) -> bool
+        ensures { Says (present self.entry.bytes.now (half_number h) ≡ false → Blank self.entry.bytes.now (half_number h)) result }
+    {
+        if self.is_present(h) {
+            return true;
         }
-        j += 1;
+        let i = FIRST + HALF * h.number();
+        for j in 0..HALF {
+            if self.bytes[i + j] != 0 {
+                return false;
+            }
+        }
+        true
     }
-    true
+
+    // The half has its names below 1024, if it is present.
+    fn names_good(self, h: Which) -> bool
+        ensures { Says (Each Named (halves self.entry.bytes.now (half_number h))) result }
+    {
+        if !self.is_present(h) {
+            return true;
+        }
+        is_named(self.half_at(h))
+    }
+
+    // The half has a good mask, if it is present.
+    fn mask_good(self, h: Which) -> bool
+        ensures { Says (Each Masked (halves self.entry.bytes.now (half_number h))) result }
+    {
+        if !self.is_present(h) {
+            return true;
+        }
+        is_masked(self.half_at(h))
+    }
 }
 
 // The message is 12 bytes; kind, flags, markers and an absent half are right.
@@ -39,86 +59,46 @@ fn well_formed(m: &[u8]) -> bool
     if m.len() != MESSAGE {
         return false;
     }
-    if !begun(m) {
+    let headed = HeadedMessage { bytes: m };
+    if !headed.begun() {
         return false;
     }
-    if !blank(m, PREVIOUS) {
+    let message = TwelveBytes { bytes: m };
+    if !message.blank(Which::Previous) {
         return false;
     }
-    blank(m, NEW)
+    message.blank(Which::New)
 }
 
-// Half h has its names below 1024, if it is present.
-fn names_good(m: &[u8], h: usize) -> bool
-    requires { (length m.now ≡ message_length) × (h < half_count) }
-    ensures { Says (Each Named (halves m.now h)) result }
-{
-    if !is_present(m, h) {
-        return true;
-    }
-    is_named(half_at(m, h))
+// The bytes of a plain message.
+#[derive(Clone, Copy)]
+struct PlainMessage<'a> {
+    bytes: &'a [u8],
 }
 
-// Half h has a good mask, if it is present.
-fn mask_good(m: &[u8], h: usize) -> bool
-    requires { (length m.now ≡ message_length) × (h < half_count) }
-    ensures { Says (Each Masked (halves m.now h)) result }
-{
-    if !is_present(m, h) {
-        return true;
-    }
-    is_masked(half_at(m, h))
-}
+impl Message for PlainMessage<'_> {
+    ghost sent = { λ m. plain m.bytes.now };
 
-// Each half that is there has its names below 1024.
-fn named(m: &[u8]) -> bool
-    requires { WellFormed m.now }
-    ensures { Says (Each Named (previous m.now ++ new m.now)) result }
-{
-    if !names_good(m, PREVIOUS) {
-        return false;
+    fn is_formed(&self) -> bool {
+        well_formed(self.bytes)
     }
-    names_good(m, NEW)
-}
 
-// Each half that is there has a good mask.
-fn masked(m: &[u8]) -> bool
-    requires { WellFormed m.now }
-    ensures { Says (Each Masked (previous m.now ++ new m.now)) result }
-{
-    if !mask_good(m, PREVIOUS) {
-        return false;
+    fn is_named(&self, h: Which) -> bool {
+        TwelveBytes { bytes: self.bytes }.names_good(h)
     }
-    mask_good(m, NEW)
-}
 
-// The tests 1 to 5.
-fn refused(b: &[u8], m: &[u8]) -> u8
-    ensures { Answers (sent_needs b.now (plain m.now)) result }
-{
-    let r = tested(b);
-    if r != 0 {
-        return r;
+    fn is_masked(&self, h: Which) -> bool {
+        TwelveBytes { bytes: self.bytes }.mask_good(h)
     }
-    if !well_formed(m) {
-        return 3;
+
+    fn carry(&self, b: &mut [u8]) -> Result<(), Refusal> {
+        carry(b, self.bytes)
     }
-    if !named(m) {
-        return 4;
-    }
-    if !masked(m) {
-        return 5;
-    }
-    0
 }
 
 // The message to the block.
-pub fn message(block: &mut [u8], message: &[u8]) -> u8
-    ensures { Message block.old message.now (result, block.new) }
+pub fn message(block: &mut [u8], message: &[u8]) -> Result<(), Refusal>
+    ensures { Messages block.old message.now (number_of result, block.new) }
 {
-    let number = refused(block, message);
-    if number != 0 {
-        return number;
-    }
-    carry(block, message)
+    send(block, &PlainMessage { bytes: message })
 }

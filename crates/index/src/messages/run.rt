@@ -1,9 +1,12 @@
 // A list of changes is carried out, or nothing of it.
 
 ghost use Rattle.std.specs.Prelude.{◌≡◌, List, [], ◌∷◌, ℕ, ◌+◌, ◌/◌, ◌%◌, ◌≤◌, length};
-ghost use Rattle.index.specs.Message.{kind_of, Carried, packed, packed_kind, packed_half, packed_change, packed_changes};
-ghost use Rattle.index.specs.work.Edits.{half, Ready, Step, Prepared, Went};
+ghost use Rattle.index.specs.Numbers.{number_of};
+ghost use Rattle.index.specs.Message.{Carried, packed, packed_kind, packed_half, packed_change, packed_changes};
+ghost use Rattle.index.specs.work.Edits.{Ready, Step, Prepared, Went};
+ghost use Rattle.index.specs.work.Halves.{as_half};
 
+use crate::Refusal;
 use crate::block::kinds::kind_of;
 use crate::messages::edits::{put_in, take_away};
 use crate::messages::halves::Half;
@@ -20,30 +23,36 @@ pub fn pack(adds: bool, kind: u8, key: u16, name: u16, mask: u16) -> u64
     2 * half
 }
 
+// The number of a change's kind.
+pub(crate) fn kind_number_in(n: u64) -> u64
+    ensures { result ≡ packed_kind n }
+{
+    n / 2 / 65536 / 65536 / 65536
+}
+
 // The half of a change.
 pub(crate) fn half_in(n: u64) -> Half
-    ensures { (result.kind ≡ packed_kind n) × (half (kind_of result.kind) result.x result.y result.mask ≡ packed_half n) }
+    ensures { as_half result ≡ packed_half n }
 {
     let half = n / 2;
     Half {
-        kind: half / 65536 / 65536 / 65536,
-        x: (half / 65536 / 65536 % 65536) as usize,
-        y: (half / 65536 % 65536) as usize,
+        kind: kind_of(kind_number_in(n)),
+        key: (half / 65536 / 65536 % 65536) as usize,
+        id: (half / 65536 % 65536) as usize,
         mask: (half % 65536) as usize,
     }
 }
 
 // One change.
-fn change(b: &mut [u8], n: u64) -> u8
+fn change(b: &mut [u8], n: u64) -> Result<(), Refusal>
     requires { Ready (packed_half n) b.old }
-    ensures { Step (packed_change n) b.old result b.new }
+    ensures { Step (packed_change n) b.old (number_of result) b.new }
 {
     let h = half_in(n);
-    let kind = kind_of(h.kind);
     if n % 2 == 0 {
-        return take_away(b, kind, h.x, h.y, h.mask);
+        return take_away(b, h);
     }
-    put_in(b, kind, h.x, h.y, h.mask)
+    put_in(b, h)
 }
 
 // The change that undoes it.
@@ -56,47 +65,39 @@ fn opposite(n: u64) -> u64
     n - 1
 }
 
-// The first n changes, which were done one after the other, are undone, the last one first.
-fn undo(b: &mut [u8], changes: &[u64], n: usize)
-    requires { Prepared changes.now b.old × (n ≤ length changes.now) }
-    ensures { (b₀ : List ℕ) → Went b₀ changes.now n b.old → b.new ≡ b₀ }
+// The changes, which were done one after the other, are undone, the last one first. None of it is refused.
+fn undo(b: &mut [u8], done: &[u64])
+    requires { Prepared done.now b.old }
+    ensures { (b₀ : List ℕ) → Went b₀ done.now (length done.now) b.old → b.new ≡ b₀ }
 {
-    let mut i = n;
-    while 0 < i {
-        i -= 1;
-        change(b, opposite(changes[i]));
+    for i in (0..done.len()).rev() {
+        let _ = change(b, opposite(done[i]));
     }
 }
 
-// The changes one after the other. The first that is refused gives its number, and those before it are undone.
-pub(crate) fn run(b: &mut [u8], changes: &[u64]) -> u8
+// The changes one after the other. The first that is refused refuses them all, and those before it are undone.
+pub(crate) fn run(b: &mut [u8], changes: &[u64]) -> Result<(), Refusal>
     requires { Prepared changes.now b.old }
-    ensures { Carried b.old (packed_changes changes.now) b.old (result, b.new) }
+    ensures { Carried b.old (packed_changes changes.now) b.old (number_of result, b.new) }
 {
-    let mut i = 0;
-    while i < changes.len() {
-        let number = change(b, changes[i]);
-        if number != 0 {
-            undo(b, changes, i);
-            return number;
+    for i in 0..changes.len() {
+        if let Err(refusal) = change(b, changes[i]) {
+            undo(b, &changes[..i]);
+            return Err(refusal);
         }
-        i += 1;
     }
-    0
+    Ok(())
 }
 
 // The run of two changes, written out: a plain message has no need of a list in memory.
-pub(crate) fn run_both(b: &mut [u8], first: u64, second: u64) -> u8
+pub(crate) fn run_both(b: &mut [u8], first: u64, second: u64) -> Result<(), Refusal>
     requires { Prepared (first ∷ second ∷ []) b.old }
-    ensures { Carried b.old (packed_changes (first ∷ second ∷ [])) b.old (result, b.new) }
+    ensures { Carried b.old (packed_changes (first ∷ second ∷ [])) b.old (number_of result, b.new) }
 {
-    let number = change(b, first);
-    if number != 0 {
-        return number;
+    change(b, first)?;
+    let last = change(b, second);
+    if last.is_err() {
+        let _ = change(b, opposite(first));
     }
-    let number = change(b, second);
-    if number != 0 {
-        change(b, opposite(first));
-    }
-    number
+    last
 }

@@ -1,40 +1,44 @@
 // A wide message: its tests, and what it does.
 
-ghost use Rattle.std.specs.Prelude.{◌++◌, ◌<◌};
-ghost use Rattle.index.specs.Numbers.{Answers, Each};
-ghost use Rattle.index.specs.Message.{half_count, Named, Masked};
-ghost use Rattle.index.specs.Wide.{WideFormed, wide_halves, previous_of, new_of};
+ghost use Rattle.index.specs.Numbers.{number_of, Each};
+ghost use Rattle.index.specs.Message.{Named, Masked};
+ghost use Rattle.index.specs.Wide.{WideFormed, wide_halves};
 ghost use Rattle.index.specs.Wide.Sent.{wide};
-ghost use Rattle.index.specs.Calls.{sent_needs, Wide};
+ghost use Rattle.index.specs.Calls.{Wide as SendsWide};
 ghost use Rattle.index.specs.work.Checks.{Says};
-ghost use Rattle.index.specs.work.Pairing.{InPlace, HalfFormed};
+ghost use Rattle.index.specs.work.Halves.{half_number};
+ghost use Rattle.index.specs.work.Pairing.{HalfFormed};
 
-use crate::block::checks::tested;
-use crate::messages::beginning::{NEW, PREVIOUS, begun, is_present};
+use crate::Refusal;
+use crate::messages::beginning::{HeadedMessage, Which};
 use crate::messages::halves::is_masked;
-use crate::messages::names::{FRONT, MASKS, all_names, in_place, length_at, list_good};
-use crate::messages::pairs::{carry_pairs, pair_with};
+use crate::messages::names::{FRONT, MASKS, WideHeader, WideLists, ids_of, keys_of};
+use crate::messages::pairs::{FormedWide, carry_pairs};
+use crate::messages::sending::{Message, send};
 
-// Half h has good lists, or it is absent, and its lengths and its mask are zero.
-fn half_formed(m: &[u8], h: usize) -> bool
-    requires { InPlace m.now × (h < half_count) }
-    ensures { Says (HalfFormed m.now h) result }
-{
-    let keys = 2 * h;
-    let ids = 2 * h + 1;
-    if is_present(m, h) {
-        if !list_good(m, keys) {
+impl WideLists<'_> {
+    // The half has good lists, or it is absent, and its lengths and its mask are zero.
+    fn half_formed(self, h: Which) -> bool
+        ensures { Says (HalfFormed self.entry.bytes.now (half_number h)) result }
+    {
+        let keys = keys_of(h);
+        let ids = ids_of(h);
+        let message = HeadedMessage { bytes: self.bytes };
+        if message.is_present(h) {
+            if !self.list_good(keys) {
+                return false;
+            }
+            return self.list_good(ids);
+        }
+        let header = WideHeader { bytes: self.bytes };
+        if header.length_at(keys) != 0 {
             return false;
         }
-        return list_good(m, ids);
+        if header.length_at(ids) != 0 {
+            return false;
+        }
+        self.bytes[MASKS + h.number()] == 0
     }
-    if length_at(m, keys) != 0 {
-        return false;
-    }
-    if length_at(m, ids) != 0 {
-        return false;
-    }
-    m[MASKS + h] == 0
 }
 
 // The header, the length and the lists are right.
@@ -44,89 +48,75 @@ fn wide_formed(m: &[u8]) -> bool
     if m.len() < FRONT {
         return false;
     }
-    if !begun(m) {
+    let message = HeadedMessage { bytes: m };
+    if !message.begun() {
         return false;
     }
-    if !in_place(m) {
+    let header = WideHeader { bytes: m };
+    if !header.in_place() {
         return false;
     }
-    if !half_formed(m, PREVIOUS) {
+    let lists = WideLists { bytes: m };
+    if !lists.half_formed(Which::Previous) {
         return false;
     }
-    half_formed(m, NEW)
+    lists.half_formed(Which::New)
 }
 
-// Half h has its names below 1024.
-fn names_good(m: &[u8], h: usize) -> bool
-    requires { WideFormed m.now × (h < half_count) }
-    ensures { Says (Each Named (wide_halves m.now h)) result }
-{
-    if !all_names(m, 2 * h) {
-        return false;
+impl FormedWide<'_> {
+    // The half has its names below 1024.
+    fn names_good(self, h: Which) -> bool
+        ensures { Says (Each Named (wide_halves self.entry.bytes.now (half_number h))) result }
+    {
+        let lists = WideLists { bytes: self.bytes };
+        if !lists.all_names(keys_of(h)) {
+            return false;
+        }
+        lists.all_names(ids_of(h))
     }
-    all_names(m, 2 * h + 1)
+
+    // The half has a good mask, if it is present: each of its pairs has the same.
+    fn mask_good(self, h: Which) -> bool
+        ensures { Says (Each Masked (wide_halves self.entry.bytes.now (half_number h))) result }
+    {
+        let message = HeadedMessage { bytes: self.bytes };
+        if !message.is_present(h) {
+            return true;
+        }
+        let header = WideHeader { bytes: self.bytes };
+        is_masked(header.pair_with(h, 0, 0))
+    }
 }
 
-// Half h has a good mask, if it is present: each of its pairs has the same.
-fn mask_good(m: &[u8], h: usize) -> bool
-    requires { WideFormed m.now × (h < half_count) }
-    ensures { Says (Each Masked (wide_halves m.now h)) result }
-{
-    if !is_present(m, h) {
-        return true;
-    }
-    is_masked(pair_with(m, h, 0, 0))
+// The bytes of a wide message.
+#[derive(Clone, Copy)]
+struct WideMessage<'a> {
+    bytes: &'a [u8],
 }
 
-// Each half that is there has its names below 1024.
-fn named(m: &[u8]) -> bool
-    requires { WideFormed m.now }
-    ensures { Says (Each Named (previous_of (wide m.now) ++ new_of (wide m.now))) result }
-{
-    if !names_good(m, PREVIOUS) {
-        return false;
-    }
-    names_good(m, NEW)
-}
+impl Message for WideMessage<'_> {
+    ghost sent = { λ m. wide m.bytes.now };
 
-// Each half that is there has a good mask.
-fn masked(m: &[u8]) -> bool
-    requires { WideFormed m.now }
-    ensures { Says (Each Masked (previous_of (wide m.now) ++ new_of (wide m.now))) result }
-{
-    if !mask_good(m, PREVIOUS) {
-        return false;
+    fn is_formed(&self) -> bool {
+        wide_formed(self.bytes)
     }
-    mask_good(m, NEW)
-}
 
-// The tests 1 to 5.
-fn refused(b: &[u8], m: &[u8]) -> u8
-    ensures { Answers (sent_needs b.now (wide m.now)) result }
-{
-    let r = tested(b);
-    if r != 0 {
-        return r;
+    fn is_named(&self, h: Which) -> bool {
+        FormedWide { bytes: self.bytes }.names_good(h)
     }
-    if !wide_formed(m) {
-        return 3;
+
+    fn is_masked(&self, h: Which) -> bool {
+        FormedWide { bytes: self.bytes }.mask_good(h)
     }
-    if !named(m) {
-        return 4;
+
+    fn carry(&self, b: &mut [u8]) -> Result<(), Refusal> {
+        carry_pairs(b, self.bytes)
     }
-    if !masked(m) {
-        return 5;
-    }
-    0
 }
 
 // The wide message to the block.
-pub fn wide(block: &mut [u8], message: &[u8]) -> u8
-    ensures { Wide block.old message.now (result, block.new) }
+pub fn wide(block: &mut [u8], message: &[u8]) -> Result<(), Refusal>
+    ensures { SendsWide block.old message.now (number_of result, block.new) }
 {
-    let number = refused(block, message);
-    if number != 0 {
-        return number;
-    }
-    carry_pairs(block, message)
+    send(block, &WideMessage { bytes: message })
 }

@@ -1,26 +1,22 @@
 // Readers of the records of a set's text.
 
-ghost use Rattle.std.specs.Prelude.{◌≡◌, ℕ, ◌<◌, Bool, true, cond, List, ◌∷◌, ltb, length, drop};
+ghost use Rattle.std.specs.Prelude.{◌≡◌, ℕ, ◌<◌, Bool, true, cond, Some, None, List, ◌∷◌, ltb, length, drop};
 ghost use Rattle.index.specs.Block.{IsName};
 ghost use Rattle.index.specs.Letters.{letter_count, letters};
 ghost use Rattle.index.specs.Text.{Entry, IsSet};
-ghost use Rattle.index.specs.work.Reading.{BytesOf, no_byte, read_letter, read_counts, total, read_record};
+ghost use Rattle.index.specs.work.Reading.{BytesOf, read_letter, read_counts, total, read_record};
 ghost use Rattle.index.specs.work.Reading.Parsed.{got};
 ghost use Rattle.index.specs.work.Pieces.{SeesNumber, SeesLetters, SeesEntry, rest};
 
 use crate::text::reading::{Cursor, Piece, count, mark, number};
 use crate::{GREATEST_NAME, Kind, LETTER_COUNT};
 
-// The count of the letter with this byte at the cursor, or of one that may not stand there, with a number that no byte is; 0 where it does not
-// stand there.
-fn counted(text: &[u8], c: Cursor, byte: u16) -> Piece
-    ensures { (may : Bool) (l : ℕ) → byte ≡ cond may l no_byte → SeesNumber text.now result (read_letter may l (drop c.at text.now)) }
+// The count of the letter with this byte at the cursor, or of one that may not stand there, which has none; 0 where it does not stand there.
+fn counted(text: &[u8], c: Cursor, byte: Option<u8>) -> Piece
+    ensures { (may : Bool) (l : ℕ) → byte ≡ cond may (Some l) None → SeesNumber text.now result (read_letter may l (drop c.at text.now)) }
 {
     let at = c.at;
-    if text.len() <= at {
-        return Piece::Number(0, c);
-    }
-    if text[at] as u16 == byte {
+    if at < text.len() && byte == Some(text[at]) {
         count(text, Cursor { at: at + 1 })
     } else {
         Piece::Number(0, c)
@@ -32,7 +28,7 @@ fn counts(
     text: &[u8],
     c: Cursor,
     kind: Kind,
-    bytes: &[u16; LETTER_COUNT],
+    bytes: &[Option<u8>; LETTER_COUNT],
     out: &mut [usize; LETTER_COUNT],
 ) -> Piece
     requires out_len { length out.old ≡ letter_count }
@@ -41,15 +37,13 @@ fn counts(
     ensures sees_letters { SeesLetters text.now result out.new (read_counts kind 0 letters (drop c.at text.now)) }
 {
     let mut here = c;
-    let mut k = 0;
-    while k < LETTER_COUNT {
-        let piece = counted(text, here, bytes[k]);
+    for (k, byte) in bytes.iter().enumerate() {
+        let piece = counted(text, here, *byte);
         let Piece::Number(n, next) = piece else {
             return piece;
         };
         out[k] = n;
         here = next;
-        k += 1;
     }
     Piece::Letters(here)
 }
@@ -59,14 +53,7 @@ fn is_counted(counts: &[usize; LETTER_COUNT]) -> bool
     requires { length counts.now ≡ letter_count }
     ensures { result ≡ ltb 0 (total counts.now) }
 {
-    let mut k = 0;
-    while k < LETTER_COUNT {
-        if 0 < counts[k] {
-            return true;
-        }
-        k += 1;
-    }
-    false
+    counts.iter().any(|count| 0 < *count)
 }
 
 // The record at the cursor, whose id is at least `least`: its counts go into `out`, and the answer's number is its id.
@@ -74,7 +61,7 @@ pub(crate) fn read_record(
     text: &[u8],
     c: Cursor,
     kind: Kind,
-    bytes: &[u16; LETTER_COUNT],
+    bytes: &[Option<u8>; LETTER_COUNT],
     least: usize,
     out: &mut [usize; LETTER_COUNT],
 ) -> Piece
@@ -108,7 +95,7 @@ pub(crate) fn take_record(
     text: &[u8],
     c: Cursor,
     kind: Kind,
-    bytes: &[u16; LETTER_COUNT],
+    bytes: &[Option<u8>; LETTER_COUNT],
     begun: bool,
     out: &mut [usize; LETTER_COUNT],
 ) -> Piece

@@ -1,7 +1,7 @@
 // Readers of the pieces of a set's text: numbers, counts and `;`.
 
 ghost use Rattle.std.specs.Prelude.{◌≡◌, ℕ, ◌≤◌, ◌<◌, List, drop};
-ghost use Rattle.index.specs.work.Reading.{digit, reaches as reachable, ends, read_digits, read_number, read_count, read_mark};
+ghost use Rattle.index.specs.work.Reading.{reaches as reachable, ends, read_digits, read_number, read_count, read_mark};
 ghost use Rattle.index.specs.work.Pieces.{SeesNumber, SeesMark};
 
 use crate::GREATEST_COUNT;
@@ -22,14 +22,6 @@ pub enum Piece {
     Wrong(Cursor),
 }
 
-fn is_digit(b: u8) -> bool
-    ensures { result ≡ digit b }
-{
-    if b < b'0' {
-        return false;
-    }
-    b <= b'9'
-}
 // Some number from `least` to `most` is one from lo to hi, or such a one with digits more, at most d.
 fn reaches(least: usize, most: usize, d: usize, lo: usize, hi: usize) -> bool
     requires { (least < 100000) × (most < 100000) }
@@ -63,11 +55,10 @@ fn digits(text: &[u8], c: Cursor, least: usize, most: usize, n: usize) -> Piece
     requires { (n ≤ most) × (least < 100000) × (most < 100000) }
     ensures { SeesNumber text.now result (read_digits least most n (drop c.at text.now)) }
 {
-    let mut at = c.at;
     let mut sum = n;
-    while at < text.len() {
+    for at in c.at..text.len() {
         let b = text[at];
-        if !is_digit(b) {
+        if !b.is_ascii_digit() {
             return ended(least, sum, Cursor { at });
         }
         let more = 10 * sum + (b as usize - 48);
@@ -75,9 +66,8 @@ fn digits(text: &[u8], c: Cursor, least: usize, most: usize, n: usize) -> Piece
             return Piece::Wrong(Cursor { at });
         }
         sum = more;
-        at += 1;
     }
-    ended(least, sum, Cursor { at })
+    ended(least, sum, Cursor { at: text.len() })
 }
 
 // A number from `least` to `most` at the cursor, without leading zeros. Mostly there is a number up to `most`, and it is
@@ -97,7 +87,7 @@ pub(crate) fn number(text: &[u8], c: Cursor, least: usize, most: usize) -> Piece
         }
         return Piece::Wrong(c);
     }
-    if !is_digit(b) {
+    if !b.is_ascii_digit() {
         return Piece::Wrong(c);
     }
     let any = digits(text, c, 0, most, 0);
@@ -118,7 +108,7 @@ pub(crate) fn count(text: &[u8], c: Cursor) -> Piece
         return Piece::Number(1, c);
     }
     let b = text[at];
-    if is_digit(b) {
+    if b.is_ascii_digit() {
         number(text, c, 2, GREATEST_COUNT)
     } else {
         Piece::Number(1, c)
@@ -130,10 +120,7 @@ pub(crate) fn mark(text: &[u8], c: Cursor) -> Piece
     ensures { SeesMark text.now result (read_mark (drop c.at text.now)) }
 {
     let at = c.at;
-    if text.len() <= at {
-        return Piece::Wrong(c);
-    }
-    if text[at] == b';' {
+    if at < text.len() && text[at] == b';' {
         Piece::Mark(Cursor { at: at + 1 })
     } else {
         Piece::Wrong(c)

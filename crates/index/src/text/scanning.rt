@@ -1,13 +1,12 @@
 // Reading a text through, to know whether it is of a set.
 
 ghost use Rattle.std.specs.Prelude.{◌≡◌, ◌-◌, length, drop};
-ghost use Rattle.index.specs.declared.Took.TheVariants.{Wrong};
 ghost use Rattle.index.specs.work.Pieces.{place_in, Scanned};
 
 use crate::block::letters::letter_bytes;
 use crate::text::entries::read_record;
 use crate::text::reading::{Cursor, Piece, mark};
-use crate::{GREATEST_NAME, Kind, LETTER_COUNT, Took};
+use crate::{GREATEST_NAME, Kind, LETTER_COUNT};
 
 // The place that a piece has.
 fn place_in(piece: Piece) -> usize
@@ -21,23 +20,23 @@ fn place_in(piece: Piece) -> usize
     }
 }
 
-// What comes of a text that has a wrong piece.
-fn refused(text: &[u8], piece: Piece) -> Took
-    ensures { result ≡ Wrong (length text.now - length (drop (place_in piece) text.now)) }
+// The place of a text that has a wrong piece.
+fn place_of(text: &[u8], piece: Piece) -> usize
+    ensures { result ≡ length text.now - length (drop (place_in piece) text.now) }
 {
     let place = place_in(piece);
     if text.len() < place {
-        return Took::Wrong(text.len());
+        return text.len();
     }
-    Took::Wrong(place)
+    place
 }
 
-// Reads a text through, and changes nothing: how many records it is of, or its place.
-pub(crate) fn scan_text(text: &[u8], kind: Kind) -> Took
+// Reads a text through, and changes nothing: how many records it is of, or the place of one that is of no set.
+pub(crate) fn scan_text(text: &[u8], kind: Kind) -> Result<usize, usize>
     ensures { Scanned kind text.now result }
 {
     if text.len() == 0 {
-        return Took::Set(0);
+        return Ok(0);
     }
     let bytes = letter_bytes(kind);
     let mut out = [0usize; LETTER_COUNT];
@@ -47,18 +46,18 @@ pub(crate) fn scan_text(text: &[u8], kind: Kind) -> Took
     loop {
         let entry = read_record(text, here, kind, &bytes, least, &mut out);
         let Piece::Number(name, next) = entry else {
-            return refused(text, entry);
+            return Err(place_of(text, entry));
         };
         n += 1;
         let at = next.at;
         if text.len() <= at {
-            return Took::Set(n);
+            return Ok(n);
         }
         if name == GREATEST_NAME {
-            return Took::Wrong(at); // no id is left for another record
+            return Err(at); // no id is left for another record
         }
         let Piece::Mark(start) = mark(text, next) else {
-            return Took::Wrong(at);
+            return Err(at);
         };
         here = start;
         least = name + 1;

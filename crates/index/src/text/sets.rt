@@ -1,87 +1,70 @@
 // The two calls on sets: one writes a set as text, the other reads one from text.
 
-ghost use Rattle.std.specs.Prelude.{◌≡◌, ◌+◌, ◌≤◌, leb, length};
-ghost use Rattle.index.specs.Numbers.{Answers};
-ghost use Rattle.index.specs.Block.{header_length, records, room};
+ghost use Rattle.std.specs.Prelude.{◌≡◌, ◌+◌, ◌≤◌, leb, IfOk};
+ghost use Rattle.index.specs.Numbers.{number_of, Answers};
+ghost use Rattle.index.specs.Message.{kind_of};
+ghost use Rattle.index.specs.Block.{records, room};
 ghost use Rattle.index.specs.Calls.{set_needs, WriteAnswers, ReadAnswers};
 
-use crate::block::checks::tested;
-use crate::block::kinds::kind_of;
+use crate::block::checks::good_block;
+use crate::block::good::GoodBlock;
+use crate::block::headed::HeadedBlock;
 use crate::block::moves::splice;
-use crate::block::places::{end_of, first_of, place_of, size_at};
 use crate::text::scanning::scan_text;
 use crate::text::taking::fill;
-use crate::text::writing::{fits, put_set};
-use crate::{HEADER, Kind, NAMES, RECORD, Took, Wrote};
+use crate::{HEADER, Kind, NAMES, RECORD, ReadError, Refusal};
 
-// The tests that both calls run first.
-fn set_refused(block: &[u8], kind: u64, key: u64) -> u8
-    ensures { Answers (set_needs block.now kind key) result }
+// What both calls ask first: the block is tested, and then the kind and the key are read.
+fn set_asked(block: &[u8], kind: u64, key: u64) -> Result<(GoodBlock<'_>, Kind, usize), Refusal>
+    ensures number { Answers (set_needs block.now kind key) (number_of result) }
+    ensures read { IfOk result (λ set. (set.0.bytes.now ≡ block.now) × (set.1 ≡ kind_of kind) × (set.2 ≡ key)) }
 {
-    let number = tested(block);
-    if number > 0 {
-        return number;
-    }
-    if kind < 1 {
-        return 3;
-    }
-    if kind > 3 {
-        return 3;
-    }
+    let good = good_block(block)?;
+    let kind = Kind::try_from(kind)?;
     if key >= NAMES as u64 {
-        return 4;
+        return Err(Refusal::Name);
     }
-    0
+    Ok((good, kind, key as usize))
 }
 
-// Writes the set of this kind and key at the front of `out`.
-pub fn write_set(block: &[u8], kind: u64, key: u64, out: &mut [u8]) -> Wrote
+// Writes the set of this kind and key at the front of `out`, and says how long its text is.
+pub fn write_set(block: &[u8], kind: u64, key: u64, out: &mut [u8]) -> Result<usize, Refusal>
     ensures { WriteAnswers block.now kind key out.old result out.new }
 {
-    let number = set_refused(block, kind, key);
-    if number > 0 {
-        return Wrote::Refused(number);
+    let (good, kind, key) = set_asked(block, kind, key)?;
+    let first = good.place_of(kind, NAMES * key);
+    let end = good.end_of(kind, key, first);
+    if !good.fits(first, end, out.len()) {
+        return Err(Refusal::ShortBuffer);
     }
-    let kind = kind_of(kind);
-    let key = key as usize;
-    let first = place_of(block, kind, NAMES * key);
-    let end = end_of(block, kind, key, first);
-    if !fits(block, first, end, out.len()) {
-        return Wrote::Refused(10);
-    }
-    Wrote::Text(put_set(out, block, first, end))
+    Ok(good.put_set(out, first, end))
 }
 
 // There is room for n records in the place of m.
-fn has_room(block: &[u8], m: usize, n: usize) -> bool
-    requires { (header_length ≤ length block.now) × (m ≤ 65536) × (n ≤ 65536) }
-    ensures { result ≡ leb (records block.now + n) (room block.now + m) }
+fn has_room(block: HeadedBlock<'_>, m: usize, n: usize) -> bool
+    requires { (m ≤ 65536) × (n ≤ 65536) }
+    ensures { result ≡ leb (records block.entry.bytes.now + n) (room block.entry.bytes.now + m) }
 {
-    let all = first_of(block, Kind::Filter) + size_at(block, Kind::Filter);
-    let room = (block.len() - HEADER) / RECORD;
+    let all = block.end(Kind::Filter);
+    let room = (block.bytes.len() - HEADER) / RECORD;
     all + n <= room + m
 }
 
-// Replaces the set of this kind and key by the one that the text is of.
-pub fn read_set(block: &mut [u8], kind: u64, key: u64, text: &[u8]) -> Took
+// Replaces the set of this kind and key by the one that the text is of, and says how many records it has.
+pub fn read_set(block: &mut [u8], kind: u64, key: u64, text: &[u8]) -> Result<usize, ReadError>
     ensures { ReadAnswers block.old kind key text.now result block.new }
 {
-    let number = set_refused(block, kind, key);
-    if number > 0 {
-        return Took::Refused(number);
-    }
-    let kind = kind_of(kind);
-    let key = key as usize;
-    let scanned = scan_text(text, kind);
-    let Took::Set(n) = scanned else {
-        return scanned;
+    let (good, kind, key) = set_asked(block, kind, key)?;
+    let n = match scan_text(text, kind) {
+        Ok(n) => n,
+        Err(place) => return Err(ReadError::NotASet(place)),
     };
-    let first = place_of(block, kind, NAMES * key);
-    let old = end_of(block, kind, key, first) - first;
-    if !has_room(block, old, n) {
-        return Took::Refused(8);
+    let first = good.place_of(kind, NAMES * key);
+    let old = good.end_of(kind, key, first) - first;
+    if !has_room(HeadedBlock { bytes: block }, old, n) {
+        return Err(ReadError::Refused(Refusal::NoRoom));
     }
     splice(block, kind, first, old, n);
     fill(block, first, text, kind, key, n);
-    Took::Set(n)
+    Ok(n)
 }

@@ -4,13 +4,14 @@
 
 ghost use Rattle.std.specs.Prelude.{◌≡◌, [], ◌∷◌, ◌+◌, ◌-◌, ◌<◌, ◌≤◌, leb, length};
 ghost use Rattle.index.specs.Letters.{letters};
-ghost use Rattle.index.specs.Block.{greatest_length, place, records, Good};
+ghost use Rattle.index.specs.Block.{records};
 ghost use Rattle.index.specs.Text.{decimal, piece_of, pieces_of, counts_at, entry_at, entry_text, text_of};
 ghost use Rattle.index.specs.work.Pieces.{next_text};
 ghost use Rattle.index.specs.work.Written.{Puts, TableBytes, entries_from};
 
+use crate::block::good::GoodBlock;
 use crate::block::letters::table_bytes;
-use crate::block::records::{count_at, id_at};
+use crate::block::record::Record;
 use crate::{LETTER_COUNT, MOST_LETTERS};
 
 // No record of a good block has a longer text, with the `;` before the next one: an id and a count have at most five digits each.
@@ -20,10 +21,9 @@ fn put_byte(out: &mut [u8], at: usize, byte: u8) -> usize
     requires { at < 1000000 }
     ensures { Puts at (byte ∷ []) out.old result out.new }
 {
-    if out.len() <= at {
-        return at + 1;
+    if at < out.len() {
+        out[at] = byte;
     }
-    out[at] = byte;
     at + 1
 }
 
@@ -53,72 +53,68 @@ fn put_piece(out: &mut [u8], at: usize, byte: u8, n: usize) -> usize
     put_decimal(out, end, n)
 }
 
-// The letters of record i.
-fn put_pieces(out: &mut [u8], at: usize, b: &[u8], i: usize, bytes: &[u8; LETTER_COUNT]) -> usize
-    requires { (at < 700000) × (place (i + 1) ≤ length b.now) × TableBytes bytes.now }
-    ensures { Puts at (pieces_of letters (counts_at b.now i)) out.old result out.new }
+// The letters of the record.
+fn put_pieces(out: &mut [u8], at: usize, source: Record<'_>, bytes: &[u8; LETTER_COUNT]) -> usize
+    requires { (at < 700000) × TableBytes bytes.now }
+    ensures { Puts at (pieces_of letters (counts_at source.entry.block.now source.entry.i)) out.old result out.new }
 {
     let mut end = at;
-    let mut k = 0;
-    while k < LETTER_COUNT {
-        end = put_piece(out, end, bytes[k], count_at(b, i, k));
-        k += 1;
+    for (k, byte) in bytes.iter().enumerate() {
+        end = put_piece(out, end, *byte, source.count(k));
     }
     end
 }
 
-// Record i.
-fn put_record(out: &mut [u8], at: usize, b: &[u8], i: usize, bytes: &[u8; LETTER_COUNT]) -> usize
-    requires { (at < 600000) × (place (i + 1) ≤ length b.now) × TableBytes bytes.now }
-    ensures { Puts at (entry_text (entry_at b.now i)) out.old result out.new }
+// The record.
+fn put_record(out: &mut [u8], at: usize, source: Record<'_>, bytes: &[u8; LETTER_COUNT]) -> usize
+    requires { (at < 600000) × TableBytes bytes.now }
+    ensures { Puts at (entry_text (entry_at source.entry.block.now source.entry.i)) out.old result out.new }
 {
-    let mark = put_decimal(out, at, id_at(b, i));
+    let mark = put_decimal(out, at, source.id());
     let end = put_byte(out, mark, b';');
-    put_pieces(out, end, b, i, bytes)
+    put_pieces(out, end, source, bytes)
 }
 
-// Record i, with the `;` before it where the text has begun.
+// The record, with the `;` before it where the text has begun.
 fn put_next(
     out: &mut [u8],
     at: usize,
     begun: bool,
-    b: &[u8],
-    i: usize,
+    source: Record<'_>,
     bytes: &[u8; LETTER_COUNT],
 ) -> usize
-    requires { (at < 500000) × (place (i + 1) ≤ length b.now) × TableBytes bytes.now }
-    ensures { Puts at (next_text begun (entry_at b.now i)) out.old result out.new }
+    requires { (at < 500000) × TableBytes bytes.now }
+    ensures { Puts at (next_text begun (entry_at source.entry.block.now source.entry.i)) out.old result out.new }
 {
-    if begun {
-        let end = put_byte(out, at, b';');
-        return put_record(out, end, b, i, bytes);
-    }
-    put_record(out, at, b, i, bytes)
+    let start = if begun { put_byte(out, at, b';') } else { at };
+    put_record(out, start, source, bytes)
 }
 
-// The set that the records from number `first` up to number `end` are.
-pub(crate) fn put_set(out: &mut [u8], b: &[u8], first: usize, end: usize) -> usize
-    requires { (first ≤ end) × (place end ≤ length b.now) × (length b.now ≤ greatest_length) }
-    ensures { Puts 0 (text_of (entries_from b.now first (end - first))) out.old result out.new }
-{
-    let bytes = table_bytes();
-    let mut at = 0;
-    let mut i = first;
-    while i < end {
-        at = put_next(out, at, first < i, b, i, &bytes);
-        i += 1;
+impl GoodBlock<'_> {
+    // The set that the records from number `first` up to number `end` are.
+    pub(crate) fn put_set(self, out: &mut [u8], first: usize, end: usize) -> usize
+        requires { (first ≤ end) × (end ≤ records self.bytes.now) }
+        ensures { Puts 0 (text_of (entries_from self.entry.bytes.now first (end - first))) out.old result out.new }
+    {
+        let b = self.bytes;
+        let bytes = table_bytes();
+        let mut at = 0;
+        for i in first..end {
+            let source = Record { block: b, i };
+            at = put_next(out, at, first < i, source, &bytes);
+        }
+        at
     }
-    at
-}
 
-// The text of that set has at most n bytes. Where so many records can not have a longer one, it is not written out to be measured.
-pub(crate) fn fits(b: &[u8], first: usize, end: usize, n: usize) -> bool
-    requires { (first ≤ end) × (end ≤ records b.now) × (length b.now ≤ greatest_length) × Good b.now }
-    ensures { result ≡ leb (length (text_of (entries_from b.now first (end - first)))) n }
-{
-    if LONGEST_RECORD * (end - first) <= n {
-        return true;
+    // The text of that set has at most n bytes. Where so many records can not have a longer one, it is not written out to be measured.
+    pub(crate) fn fits(self, first: usize, end: usize, n: usize) -> bool
+        requires { (first ≤ end) × (end ≤ records self.bytes.now) }
+        ensures { result ≡ leb (length (text_of (entries_from self.entry.bytes.now first (end - first)))) n }
+    {
+        if LONGEST_RECORD * (end - first) <= n {
+            return true;
+        }
+        let mut nothing = [0u8; 0];
+        self.put_set(&mut nothing, first, end) <= n
     }
-    let mut nothing = [0u8; 0];
-    put_set(&mut nothing, b, first, end) <= n
 }

@@ -5,9 +5,11 @@ use mathlib.Core.List.{List}
 use native.Mathlib.Omega.{arith}
 use Rattle.index.specs.declared.Kind.TheVariants.{Membership}
 use Rattle.index.specs.Block.{size}
-use Rattle.rights.specs.declared.Given.{Given}
+use Rattle.std.specs.Prelude.{Result}
+use Rattle.index.specs.declared.refusals.Refusal.{Refusal}
 use Rattle.rights.specs.HeldTo.{HeldTo, AsksTo}
-use Rattle.rights.proofs.laws.questions.Limits.{given_same, one_within, as_other, one_held_to}
+use Rattle.rights.proofs.laws.questions.OneAnswer.{given_same}
+use Rattle.rights.proofs.laws.questions.Limits.{one_within, as_other, one_held_to}
 use Rattle.plain.specs.Plain.{greatest_limit, most_records, Small, Within, AsksWithin, EnginesAgree}
 
 module _ (b : List ℕ) (u o request limit : ℕ) where
@@ -15,7 +17,7 @@ module _ (b : List ℕ) (u o request limit : ℕ) where
   unfolding Within
   one_plain = one_within b u o request limit (Small b limit)
 
-  pub one_asks_within : (r s : Given) → AsksWithin b u o request limit r → AsksWithin b u o request limit s → r ≡ s
+  pub one_asks_within : (r s : Result ℕ Refusal) → AsksWithin b u o request limit r → AsksWithin b u o request limit s → r ≡ s
   unfolding AsksWithin
   one_asks_within = given_same (Within b u o request limit) (Within b u o request limit) one_plain
 

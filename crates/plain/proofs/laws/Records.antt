@@ -50,6 +50,6 @@ module _ {b : List ℕ} (g : Good b) {i : ℕ} (of : Of b Membership i) where
 -- A link is an M record.
 pub linked_where : {b : List ℕ} → Good b → (l : Link) (x y : ℕ) → Linked b l x y → (i : ℕ) × At b Membership x y i
 unfolding Carries WithoutN
-linked_where g (link.Right k) x y c = let w = net_where g Membership k c in (w.0, w.1)
+linked_where g (link.Right right) x y c = let w = net_where g Membership right.place c in (w.0, w.1)
 linked_where g link.WithoutN x y c = member_where g c.0
 linked_where g link.Member x y c = member_where g c

@@ -1,7 +1,7 @@
 -- For proofs only: what the small questions of the engine ask of a record by its number, and of a chain.
 use Rattle.std.specs.Prelude.{ℕ, ◌-◌, ◌<◌, ◌≡◌, List, ◌⊎◌}
 use Rattle.index.specs.declared.Kind.TheVariants.{Permission}
-use Rattle.index.specs.Letters.{right_count, marker_x, marker_n}
+use Rattle.index.specs.Letters.{marker_x, marker_n}
 use Rattle.index.specs.Block.{Of, key, id, count_at, NetAt}
 use Rattle.rights.specs.Chain.{Chain}
 use Rattle.rights.specs.Groups.{Member, WithoutN}
@@ -23,15 +23,9 @@ ClosesAt b i = WithoutAt b i × (0 < count_at b i marker_x)
 
 -- ---- chains
 
--- A link of a right has a right.
-abbrev pub IsLink : Link → Type 0
-IsLink (link.Right k) = k < right_count
-IsLink link.WithoutN = Unit {0}
-IsLink link.Member = Unit {0}
-
 -- The records that a chain of such links may go through.
 abbrev pub Linked : List ℕ → Link → ℕ → ℕ → Type 0
-Linked b (link.Right k) x y = Carries b k x y
+Linked b (link.Right right) x y = Carries b right.place x y
 Linked b link.WithoutN x y = WithoutN b x y
 Linked b link.Member x y = Member b x y
 

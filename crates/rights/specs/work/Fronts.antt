@@ -1,11 +1,10 @@
 -- For proofs only: M-108: "In each round only the records of names whose marks grew in the round before need be looked at." Those
--- names are the first of a list, and their first records are looked up once.
+-- names are on a list, and their first records are looked up once.
 use Rattle.std.specs.Prelude.{ℕ, ◌+◌, ◌<◌, ◌≤◌, ◌≡◌, List, ◌⊎◌, ◌↔◌, length, get_or}
 use Rattle.index.specs.declared.Kind.TheVariants.{Membership}
 use Rattle.index.specs.Letters.{right_count, Mask}
 use Rattle.index.specs.Block.{name_count, IsName, size, Of, key, id}
 use Rattle.rights.specs.declared.walk.Carry.{Carry}
-use Rattle.rights.specs.declared.walk.Sweep.{Sweep}
 use Rattle.rights.specs.Examined.{HowMany}
 use Rattle.rights.specs.work.Marks.{Marked, Carried, Brings, Grew}
 use Rattle.directory.specs.Directory.{StartsAt}
@@ -25,26 +24,20 @@ Among names n z = (j : ℕ) × (j < n) × (get_or names j 0 ≡ z)
 abbrev pub Once : List ℕ → ℕ → Type 0
 Once names n = (j : ℕ) → j < n → Among names j (get_or names j 0) → ⊥
 
--- No mark has shrunk; the first n names of the list are those whose marks grew, and none of them stands there twice.
-pub record Front (old ms names : List ℕ) (n : ℕ) : Type 0 where
+-- No mark has shrunk; the names of the list are those whose marks grew, and none of them stands there twice.
+pub record Front (old ms names : List ℕ) : Type 0 where
   pub above : (z : ℕ) → get_or old z 0 ≤ get_or ms z 0
-  pub listed : (z : ℕ) → Among names n z ↔ Grew old ms z
-  pub once : Once names n
+  pub listed : (z : ℕ) → Among names (length names) z ↔ Grew old ms z
+  pub once : Once names (length names)
 
 -- The marks ms have what the records bring from the old marks.
 unfoldable pub Settled : List ℕ → Carry → List ℕ → List ℕ → Type 0
 Settled b carry old ms = (k z : ℕ) → k < right_count → Brings b carry old k z → Marked ms k z
 
--- There is a mark for each name, and the list has its room.
-pub record Rooms (marks names : List ℕ) : Type 0 where
-  pub of_marks : length marks ≡ name_count
-  pub of_names : length names ≡ list_length
-
--- The first n of the list are names, each once.
-pub record Named (names : List ℕ) (n : ℕ) : Type 0 where
-  pub inside : n ≤ length names
-  pub each : (j : ℕ) → j < n → IsName (get_or names j 0)
-  pub once : Once names n
+-- The list has names, each once.
+pub record Named (names : List ℕ) : Type 0 where
+  pub each : (j : ℕ) → j < length names → IsName (get_or names j 0)
+  pub once : Once names (length names)
 
 -- ---- their first records
 
@@ -76,8 +69,11 @@ Spread b carry ms D to = (z : ℕ) → Mask (get_or to z 0) (λ k. Marked ms k z
 abbrev pub Through : List ℕ → List ℕ → ℕ → ℕ → Type 0
 Through b names j i = Among names j (key b i)
 
--- A round that is through with the first j names: the marks, the list of those that grew, and how many records were examined.
-pub record Swept (b : List ℕ) (carry : Carry) (ms names : List ℕ) (j : ℕ) (to next : List ℕ) (sweep : Sweep) : Type 0 where
+-- A round that is through with the first j names: the marks, and the list of those that grew.
+pub record Swept (b : List ℕ) (carry : Carry) (ms names : List ℕ) (j : ℕ) (to next : List ℕ) : Type 0 where
   pub brought : Spread b carry ms (Through b names j) to
-  pub front : Front ms to next sweep.listed
-  pub counted : HowMany (Through b names j) (size b Membership) sweep.examined
+  pub front : Front ms to next
+
+-- The first j names have n M records.
+abbrev pub Counted : List ℕ → List ℕ → ℕ → ℕ → Type 0
+Counted b names j n = HowMany (Through b names j) (size b Membership) n

@@ -1,10 +1,9 @@
 -- For proofs only: which records are of which names, and what the F records of a name let through.
-use Rattle.std.specs.Prelude.{ℕ, ◌+◌, ◌<◌, ◌≤◌, ◌≡◌, List, ◌↔◌, length}
+use Rattle.std.specs.Prelude.{ℕ, ◌+◌, ◌<◌, ◌≤◌, ◌≡◌, List, ◌↔◌}
 use Rattle.index.specs.declared.Kind.{Kind}
 use Rattle.index.specs.declared.Kind.TheVariants.{Permission, Filter}
 use Rattle.index.specs.Block.{name_count, Of, key, id}
 use Rattle.directory.specs.declared.Span.{Span}
-use Rattle.directory.specs.Directory.{Own}
 use Rattle.rights.specs.Groups.{Member}
 use Rattle.rights.specs.Held.{Is, Net}
 
@@ -17,10 +16,6 @@ pub record KeyBefore (b : List ℕ) (end i r : ℕ) : Type 0 where
   pub before : i < end → r ≡ key b i
   pub past : end ≤ i → r + 1 ≡ wide
   pub small : r < wide
-
--- A lent directory: none, which is an empty slice, or the block's own.
-abbrev pub Lent : List ℕ → List ℕ → Type 0
-Lent b d = 0 < length d → Own b d
 
 -- The records of the kind with the key x are those of the span.
 abbrev pub Keyed : List ℕ → Kind → ℕ → Span → Type 0

@@ -18,7 +18,7 @@ use Rattle.rights.specs.Chain.Chain.{here, through}
 use Rattle.rights.specs.Groups.{Open}
 use Rattle.rights.specs.Held.{Carries, Passes, Holds, chain_limit}
 use Rattle.rights.proofs.laws.ByNumber.{at_self, net_at, net_where}
-use Rattle.slips.specs.declared.finding.Grant.TheVariants as grant
+use Rattle.std.specs.Prelude.{Some, None}
 use Rattle.slips.specs.Slip.{most_names, last, Names, ZeroAlone, Slip, Shortest}
 use Rattle.slips.specs.Calls.{Found}
 use Rattle.slips.specs.work.Trails.{far, at, at_object, between, Short, Walk, Granted, Backs, Traced, ObjectTraced}
@@ -104,7 +104,7 @@ module _ {b : List ℕ} (good : Good b) {k start : ℕ} {steps before : List ℕ
 
 -- ---- both sides
 
-pub granting : (b : List ℕ) (k : ℕ) (us os : List ℕ) (i : ℕ) → Granted b k us os (grant.At i) → Of b Permission i
+pub granting : (b : List ℕ) (k : ℕ) (us os : List ℕ) (i : ℕ) → Granted b k us os (Some i) → Of b Permission i
 unfolding Granted
 granting b k us os i at_i = at_i.0
 
@@ -134,7 +134,7 @@ module _ {b : List ℕ} (good : Good b) {u o k : ℕ} (right : k < right_count) 
       one_less w l n = omega (arith, walked good w (names_chain l n) (omega (arith, n.few)), n.some)
 
   -- Where no P record is reached, the right is not held.
-  pub not_held : Granted b k us os grant.Nowhere → Holds chain_limit b u o k → ⊥
+  pub not_held : Granted b k us os None → Holds chain_limit b u o k → ⊥
   unfolding Granted
   not_held none h =
       let (xs, ys, p) = holds_slip h in
@@ -142,7 +142,7 @@ module _ {b : List ℕ} (good : Good b) {u o k : ℕ} (right : k < right_count) 
       omega (arith, none j of net, p.user_names.few, ⊎_elim (λ n. n.few) (λ z. omega (arith, ap length z)) p.object_names)
 
   -- Where the nearest one is record i, its names are reached, and those that are written are a shortest slip.
-  module _ (i : ℕ) (at_i : Granted b k us os (grant.At i)) where
+  module _ (i : ℕ) (at_i : Granted b k us os (Some i)) where
     pub user_reached : at us (id b i) ≤ chain_limit
     unfolding Granted
     user_reached = few_steps good wu (id b i) (good.ids i (of_records Permission b i at_i.0)) (omega (arith, at_i.2))

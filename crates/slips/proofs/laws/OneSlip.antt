@@ -4,8 +4,9 @@ use mathlib.Core.Path.{◌≡◌, sym, ap, ◌∙◌}
 use mathlib.Core.List.{List}
 use mathlib.Core.Logic.{◌⊎◌, inl, inr}
 use native.Mathlib.Omega.{arith}
+use Rattle.std.specs.Prelude.{Bool, Result}
+use Rattle.index.specs.declared.refusals.Refusal.{Refusal}
 use Rattle.index.proofs.laws.OneFirst.{one_first, both_first}
-use Rattle.rights.specs.declared.Answer.{Answer}
 use Rattle.rights.specs.Held.{Holds, chain_limit}
 use Rattle.rights.proofs.laws.questions.OneAnswer.{one_yes, answer_once}
 use Rattle.slips.specs.Slip.{Slip}
@@ -18,7 +19,7 @@ module _ (b : List ℕ) (u o right : ℕ) (us os : List ℕ) where
   unfolding ChecksSlip
   one_check = one_first (λ n. (n, 0)) (check_needs b u o right us os) (Judged b u o right us os) (one_yes (ForRight right (λ k. Slip b u o k us os)))
 
-  pub one_check_answer : (r s : Answer) → CheckAnswers b u o right us os r → CheckAnswers b u o right us os s → r ≡ s
+  pub one_check_answer : (r s : Result Bool Refusal) → CheckAnswers b u o right us os r → CheckAnswers b u o right us os s → r ≡ s
   unfolding CheckAnswers
   one_check_answer = answer_once (ChecksSlip b u o right us os) one_check
 

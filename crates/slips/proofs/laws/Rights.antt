@@ -4,44 +4,32 @@ use mathlib.Core.Path.{◌≡◌, refl}
 use mathlib.Core.Logic.{◌↔◌}
 use native.Mathlib.Omega.{arith}
 use lib.Bits.{bit_and}
-use lib.Dec.{ltb}
 use Rattle.index.specs.Letters.{right_count, In}
-use Rattle.index.specs.work.Checks.{Says}
-use Rattle.index.proofs.laws.Answer.{less_says, says_same}
 use Rattle.index.proofs.laws.block.Masks.{four, in_and, in_power, in_zero}
 use Rattle.index.proofs.laws.block.MayHave.{some_letter}
 use Rattle.slips.specs.Calls.{ForRight, OneRight}
-use Rattle.slips.specs.work.Tested.{RightOf}
+use Rattle.slips.specs.work.Tested.{IsRight}
 
-pub right_is : (k : ℕ) → k < right_count → RightOf (2 ^ k) k
+pub right_is : (k : ℕ) → k < right_count → IsRight (2 ^ k) k
 right_is k h = record {
-  few = omega arith;
-  is = λ _. refl;
+  few = h;
+  is = refl;
   only = λ j l e. (in_power k j).0 (rw e ((in_power j j).1 refl));
 }
 
-pub right_none : (mask : ℕ) → (mask ≡ 1 → ⊥) → (mask ≡ 2 → ⊥) → (mask ≡ 4 → ⊥) → (mask ≡ 8 → ⊥) → RightOf mask right_count
-right_none mask a b c d = record {
-  few = omega arith;
-  is = λ h. absurd (omega arith);
-  only = λ j l e. absurd (four (λ j. mask ≡ 2 ^ j → ⊥) a b c d j l e);
-}
-
--- It names one just when there is such a right.
-pub one_says : {mask r : ℕ} → RightOf mask r → Says (OneRight mask) (ltb r right_count)
-one_says {mask} {r} w =
-    says_same (ltb r right_count) (λ h. (r, h, w.is h, tt)) (λ p. omega (arith, w.only p.0 p.1 p.2, p.1)) (less_says r right_count)
+pub right_none : (mask : ℕ) → (mask ≡ 1 → ⊥) → (mask ≡ 2 → ⊥) → (mask ≡ 4 → ⊥) → (mask ≡ 8 → ⊥) → OneRight mask → ⊥
+right_none mask a b c d one = four (λ j. mask ≡ 2 ^ j → ⊥) a b c d one.0 one.1 one.2
 
 -- The right that is named, where there is one.
-pub right_of_one : {mask : ℕ} (one : OneRight mask) → RightOf mask one.0
+pub right_of_one : {mask : ℕ} (one : OneRight mask) → IsRight mask one.0
 right_of_one one = rw one.2 (right_is one.0 one.1)
 
+pub one_of_right : {mask r : ℕ} → IsRight mask r → OneRight mask
+one_of_right {r = r} w = (r, w.few, w.is, tt)
+
 -- What holds for the right that it names holds for that right.
-pub for_right : {mask r : ℕ} (P : ℕ → Type 0) → RightOf mask r → OneRight mask → ForRight mask P ↔ P r
-for_right {mask} {r} P w one = (
-  (λ p. rw (w.only p.0 p.1 p.2) at p.3),
-  (λ p. let e = w.only one.0 one.1 one.2 in (r, omega (arith, e, one.1), w.is (omega (arith, e, one.1)), p)),
-)
+pub for_right : {mask r : ℕ} (P : ℕ → Type 0) → IsRight mask r → ForRight mask P ↔ P r
+for_right {mask} {r} P w = ((λ p. rw (w.only p.0 p.1 p.2) at p.3), (λ p. (r, w.few, w.is, p)))
 
 -- A mask of rights, cut down to one right, tells whether that one is in it.
 module _ (mask k : ℕ) where

@@ -36,7 +36,7 @@ module _ (b : List ℕ) (u o right : ℕ) where
     asked : All (question_needs b u o right ordinary)
     unfolding question_needs block_needs IsProfile
     asked =
-        let small = right_small (right_of_one one) one in
+        let small = right_small (right_of_one one) in
         (named.sized, (named.good, ((named.user, named.object), ((some one.0 one.1 one.2, omega (arith, small)), (inl refl, tt)))))
       where
         some : (k : ℕ) → k < right_count → right ≡ 2 ^ k → 1 ≤ right
@@ -47,7 +47,7 @@ module _ (b : List ℕ) (u o right : ℕ) where
     unfolding Full Limited HoldsIn profile_of
     full_held c f =
         let r = first_sure unreported (Reports (profile_of ordinary) b u o right) c (question_needs b u o right ordinary) asked f in
-        let covers = mask_covers right (right_small (right_of_one one) one) r.1 in (
+        let covers = mask_covers right (right_small (right_of_one one)) r.1 in (
           r.0,
           (
             (λ e. (one.0, one.1, one.2, covers.0 e one.0 one.1 (rw one.2 ((in_power one.0 one.0).1 refl)))),
@@ -56,7 +56,7 @@ module _ (b : List ℕ) (u o right : ℕ) where
         )
       where
         held : ForRight right (Holds chain_limit b u o) → (j : ℕ) → j ≡ one.0 → Holds chain_limit b u o j
-        held p j e = rw e ((for_right (Holds chain_limit b u o) (right_of_one one) one).0 p)
+        held p j e = rw e ((for_right (Holds chain_limit b u o) (right_of_one one)).0 p)
 
   -- ---- what an accepted call says
 

@@ -53,13 +53,6 @@ module _ {b : List ℕ} (g : Good b) {k start n lo hi p i : ℕ} {steps before o
       ⊎_elim (λ w. inl (inl w))
       (λ q. elim (ℕ_discrete j i) [ yes e ↦ inr e | no ne ↦ inl (inr (q.0, omega (arith, q.1, ne))) ]) d
 
-  -- Nothing changes.
-  pub passed_by : (NetAt b i k → at steps (id b i) ≤ n + 1) → Trails b k start n lo hi p (i + 1) steps before order len
-  passed_by here =
-      looked t p (i + 1) (omega arith)
-      (λ j ofj net e d.
-      ⊎_elim (λ d. inl d) (λ q. inr (subst (λ (j : ℕ). NetAt b j k → at steps (id b j) ≤ n + 1) (sym q) here net)) (one_more j d))
-
   -- Its id is reached.
   module _ (kr : k < right_count) (net : NetAt b i k) {x y : ℕ} (ex : x ≡ key b i) (ey : y ≡ id b i) (there : at steps y ≡ far)
       (l : Listed steps order len) where
@@ -184,13 +177,6 @@ module _ {b : List ℕ} (g : Good b) {k start n lo hi p i : ℕ} {steps before o
 
 module _ {b : List ℕ} (g : Good b) {k start n lo hi p : ℕ} {steps before order : List ℕ} {len : ℕ} (low : lo ≤ p) (high : p < hi) {firsts : List ℕ}
     (begins : Begins b firsts 0) {x : ℕ} (at_p : x ≡ get_or order p 0) where
-  -- None is before the first.
-  pub from_first : Trails b k start n lo hi p 0 steps before order len → Trails b k start n lo hi p (get_or firsts x 0) steps before order len
-  from_first t =
-      looked t p (get_or firsts x 0) (omega arith)
-      (λ j of net e d.
-      ⊎_elim (λ w. inl (inl w)) (λ q. absurd (omega (arith, (begins j of (omega arith)).high, q.1, ap (λ (z : ℕ). get_or firsts z 0) (q.0 ∙ sym at_p)))) d)
-
   -- Record i is of another name, or past the last: all of them are before it.
   pub to_last : {i : ℕ} → get_or firsts x 0 ≤ i → (i < size b Membership → key b i ≡ x → ⊥) → Trails b k start n lo hi p i steps before order len
       → Trails b k start n lo hi (p + 1) 0 steps before order len

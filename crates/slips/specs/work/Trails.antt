@@ -1,12 +1,10 @@
 -- For proofs only: how the finder walks. For each name how many records the shortest chain from the start has, and the name before it on that chain.
-use Rattle.std.specs.Prelude.{ℕ, ◌+◌, ◌<◌, ◌≤◌, ◌≡◌, cond, List, ◌⊎◌, length, get_or, eqb}
+use Rattle.std.specs.Prelude.{ℕ, ◌+◌, ◌<◌, ◌≤◌, ◌≡◌, cond, List, ◌⊎◌, length, get_or, eqb, Option, Some, None}
 use Rattle.index.specs.declared.Kind.TheVariants.{Membership, Permission}
 use Rattle.index.specs.Block.{name_count, IsName, from, Of, key, id, NetAt}
 use Rattle.rights.specs.Held.{Carries, chain_limit}
 use Rattle.rights.specs.work.Fronts.{Once}
 use Rattle.slips.specs.declared.finding.Best.{Best}
-use Rattle.slips.specs.declared.finding.Grant.{Grant}
-use Rattle.slips.specs.declared.finding.Grant.TheVariants as grant
 
 -- Stands for the steps to a name that is not reached. Two sums of steps are below it just when both names are reached.
 abbrev pub far : ℕ
@@ -95,11 +93,11 @@ pub record Nearest (b : List ℕ) (k : ℕ) (us os : List ℕ) (i : ℕ) (best :
   pub there : best.steps < far → Of b Permission best.at × NetAt b best.at k × (between b us os best.at ≡ best.steps)
 
 -- The P record that grants right k with the fewest steps between, if any does.
-unfoldable pub Granted : List ℕ → ℕ → List ℕ → List ℕ → Grant → Type 0
-Granted b k us os (grant.At i) =
+unfoldable pub Granted : List ℕ → ℕ → List ℕ → List ℕ → Option ℕ → Type 0
+Granted b k us os (Some i) =
     Of b Permission i × NetAt b i k × (between b us os i < far)
     × ((j : ℕ) → Of b Permission j → NetAt b j k → between b us os i ≤ between b us os j)
-Granted b k us os grant.Nowhere = (j : ℕ) → Of b Permission j → NetAt b j k → far ≤ between b us os j
+Granted b k us os None = (j : ℕ) → Of b Permission j → NetAt b j k → far ≤ between b us os j
 
 -- ---- the names written
 

@@ -2,7 +2,6 @@
 use Rattle.std.proofs.Common.{◌+◌, ◌≤◌, ℕ, List, length, arith, length-append}
 use Rattle.index.specs.declared.Kind.TheVariants.{Membership, Permission, Filter}
 use Rattle.index.specs.Block.{name_count}
-use Rattle.index.specs.Message.{IsKind, kind_of}
 use Rattle.index.proofs.laws.text.Writes.{puts_then}
 use Rattle.standing.specs.Printed.{set_lines, block_lines}
 use Rattle.standing.specs.work.Room.{Usable, longest_sets}
@@ -17,29 +16,14 @@ all_fit : (b : List ℕ) → Usable b
 unfolding block_lines
 all_fit b u = omega (arith, simp length-append at (block_bound u))
 
-pub put_sets-members-requires-clause-usable : goal.put_sets-members-requires-clause-usable
-unfolding IsKind
-put_sets-members-requires-clause-usable c = (c.requires.0, (omega arith, omega arith), c.requires.1)
-
 pub put_sets-members-requires-clause-name_count_in_bounds : goal.put_sets-members-requires-clause-name_count_in_bounds
-unfolding kind_of
 put_sets-members-requires-clause-name_count_in_bounds c = omega (arith, all_fit _ c.requires.0)
 
-pub put_sets-permissions-requires-clause-usable : goal.put_sets-permissions-requires-clause-usable
-unfolding IsKind
-put_sets-permissions-requires-clause-usable c = (c.requires.0, (omega arith, omega arith), omega arith)
-
 pub put_sets-permissions-requires-clause-name_count_in_bounds : goal.put_sets-permissions-requires-clause-name_count_in_bounds
-unfolding kind_of
 put_sets-permissions-requires-clause-name_count_in_bounds c =
     omega (arith, all_fit _ c.requires.0, c.put_sets-members.ensures.ends, c.put_sets-members.auto.out)
 
-pub put_sets-requires-clause-usable : goal.put_sets-requires-clause-usable
-unfolding IsKind
-put_sets-requires-clause-usable c = (c.requires.0, (omega arith, omega arith), omega arith)
-
 pub put_sets-requires-clause-name_count_in_bounds : goal.put_sets-requires-clause-name_count_in_bounds
-unfolding kind_of
 put_sets-requires-clause-name_count_in_bounds c =
     omega (
       arith,
@@ -51,7 +35,7 @@ put_sets-requires-clause-name_count_in_bounds c =
     )
 
 pub returns : goal.returns
-unfolding kind_of block_lines
+unfolding block_lines
 returns c =
     puts_front
     (puts_then _ _ (puts_then _ _ c.put_sets-members.ensures c.put_sets-permissions.ensures) c.put_sets.ensures)

@@ -1,15 +1,18 @@
 -- `standing::put_bytes` meets its contract: the bytes passed are written.
-use Rattle.std.proofs.Common.{length, take, get_or, [], ◌∷◌, ◌<◌, refl, arith, add-one}
-use Rattle.std.proofs.Math.Seq.{take-suc}
-use Rattle.index.proofs.laws.text.Writes.{puts_then}
+use Rattle.std.proofs.Common.{ℕ, ◌+◌, ◌-◌, ◌≡◌, List, ◌++◌, take, drop, length, refl, arith}
+use Rattle.std.proofs.lemmas.Grind.{common_steps}
+use Rattle.std.proofs.lemmas.List.Edits.{sets-eq}
 use Rattle.standing.proofs.put_bytes.Goals as goal
 
-pub loop-i-preserved : goal.loop-i-preserved
-loop-i-preserved c =
-    let bytes = c.args.bytes.now in
-    let l = c.loop-i in
-    let h : l.i < length bytes = omega arith in (
-      omega arith,
-      rw (add-one, take-suc bytes l.i 0 h)
-          (puts_then (take l.i bytes) (get_or bytes l.i 0 ∷ []) l.invariant.1 (record { ends = omega arith; buffer = refl })),
-    )
+-- What lies behind the part is behind all that lies before it.
+behind : (at n : ℕ) (out part : List ℕ) → take at out ++ (part ++ drop (at + n - at) (drop at out)) ≡ (take at out ++ part) ++ drop (at + n) out
+behind at n out part = grind (arith, common_steps)
+
+pub returns : goal.returns
+returns c =
+    record {
+      ends = refl;
+      buffer =
+          rw (sets-eq c.args.bytes.now c.args.out.now c.args.at (omega arith), ← c.copy_from_slice.ensures.after)
+          (behind c.args.at (length c.copy_from_slice.new.self) c.args.out.now c.copy_from_slice.new.self);
+    }

@@ -3,7 +3,7 @@ use Rattle.standing.proofs.Texts.{never_refused, text_front}
 use Rattle.standing.proofs.put_text.Goals as goal
 
 pub returns-in_default : goal.returns-in_default
-returns-in_default c = absurd (never_refused _ _ _ _ _ c.requires _ c.in_default.ensures)
+returns-in_default c = absurd (never_refused _ _ _ _ _ c.requires _ (rw c.number.ensures at c.in_default.ensures))
 
 pub returns : goal.returns
-returns c = text_front _ _ _ _ _ c.requires _ c.in-Text.ensures
+returns c = text_front _ _ _ _ _ c.requires _ (rw c.number.ensures at c.in-Ok.ensures)

@@ -1,6 +1,7 @@
 -- `standing::run` meets its contract: the block that make leaves is fed, and then its sets are shown.
 use Rattle.std.proofs.Common.{refl, List, ℕ, Result, Ok, Err, OnErr}
 use Rattle.index.specs.Calls.{Makes}
+use Rattle.index.proofs.laws.Refusing.{is_accepted}
 use Rattle.standing.specs.Promised.{LedTo, Halted}
 use Rattle.std.proofs.KnownBytes.{Appends-trans}
 use Rattle.std.proofs.lemmas.Result.{on_ok_weaker}
@@ -14,6 +15,9 @@ if_err (Err e) p = p
 
 halted : {b b₁ b' : List ℕ} → Makes b (0, b₁) → LedTo b₁ 1 b' → Halted b b'
 halted {b₁ = b₁} m l = record { block = b₁; made = m; led = l }
+
+pub unwrap-requires : goal.unwrap-requires
+unwrap-requires g c = is_accepted c.make.result (is_made _ _ _ c.requires.0 c.make.ensures).0
 
 pub feed-requires : goal.feed-requires
 feed-requires g c = made_usable _ _ _ c.requires.0 c.make.ensures

@@ -1,34 +1,40 @@
 -- A move: the tests, then the changes that are gathered and carried out.
-use native.Mathlib.Omega.{arith}
+use Rattle.std.proofs.Common.{refl, arith}
+use Rattle.index.proofs.laws.Refusing.{some, passed_on}
 use Rattle.index.proofs.laws.message.PairsListed.{both_listed}
 use Rattle.appointments.specs.Appointment.{standing_only}
+use Rattle.appointments.specs.Moves.{Moved}
 use Rattle.appointments.proofs.laws.Picked.{no_more}
 use Rattle.appointments.proofs.laws.Moving.{block_refuses, list_refuses, in_range, carried}
 use Rattle.appointments.proofs.moving.moved.Goals as goal
 
-pub returns-then-first-ne0 : goal.returns-then-first-ne0
-returns-then-first-ne0 c = block_refuses c.args.list.now c.args.old c.args.new c.args.block.now c.if-first-ne0.true c.tested-first.ensures
+pub returns-in_err-tested : goal.returns-in_err-tested
+returns-in_err-tested c =
+    let a = c.args in
+    passed_on (λ n. Moved a.block.now a.list.now a.old a.new (n, a.block.now)) c.from_residual.result _ c.from_residual.ensures.1
+    (block_refuses a.list.now a.old a.new a.block.now (some _) c.in_err-tested.ensures)
 
-pub returns-then-number-ne0 : goal.returns-then-number-ne0
-returns-then-number-ne0 c =
-    list_refuses c.args.list.now c.args.old c.args.new c.args.block.now c.if-first-ne0.false c.tested-first.ensures c.if-number-ne0.true c.days_refused-number.ensures
+pub returns-in-Err : goal.returns-in-Err
+returns-in-Err c =
+    list_refuses c.args.list.now c.args.old c.args.new c.args.block.now refl c.in_ok-tested.ensures (some _) c.in-Err.ensures
 
 pub gather-middle-requires : goal.gather-middle-requires
 gather-middle-requires c =
-    let i = in_range c.args.list.now c.args.old c.args.new c.if-number-ne0.false c.days_refused-number.ensures in
-    (i, omega (arith, i.few, no_more c.args.list.now c.args.old c.args.new))
+    let a = c.args in
+    let i = in_range a.list.now a.old a.new c.in_default.ensures in
+    (i, omega (arith, i.few, no_more a.list.now a.old a.new))
 
 pub gather-end-requires : goal.gather-end-requires
 gather-end-requires c =
-    let i = in_range c.args.list.now c.args.old c.args.new c.if-number-ne0.false c.days_refused-number.ensures in
-    (i, omega (arith, i.few, no_more c.args.list.now c.args.old c.args.new, c.gather-middle.ensures.0, c.gather-middle.ensures.1.same_length))
+    let a = c.args in
+    let i = in_range a.list.now a.old a.new c.in_default.ensures in
+    (i, omega (arith, i.few, no_more a.list.now a.old a.new, c.gather-middle.ensures.0, c.gather-middle.ensures.1.same_length))
 
 pub returns : goal.returns
 returns c =
     let l = c.args.list.now in
-    let b = c.args.block.now in
     let old = c.args.old in
     let new = c.args.new in
-    carried l old new b (λ j. omega (arith, c.type_inv.list j)) _ _ c.if-number-ne0.false c.days_refused-number.ensures
+    carried l old new c.args.block.now (λ j. omega (arith, c.type_inv.list j)) _ _ c.in_default.ensures
     (both_listed (standing_only l old new) (standing_only l new old) c.gather-middle.ensures.1 c.gather-end.ensures.1)
     c.carry_out.ensures

@@ -1,88 +1,44 @@
 -- The tests of a list of appointments.
-use mathlib.Core.Path.{refl}
-use mathlib.Core.Logic.{inl, inr}
-use native.Mathlib.Omega.{arith}
-use Rattle.index.proofs.laws.Answer.{yes_not, no_not}
-use Rattle.appointments.specs.Appointment.{appointment_needs}
-use Rattle.appointments.specs.work.Listed.{PassesTest}
-use Rattle.appointments.proofs.laws.Tested.{formed, each_formed, masked, each_masked}
-use Rattle.std.proofs.Common.{ap}
-use mathlib.Core.Bool.{not}
+use Rattle.std.proofs.Common.{arith}
+use Rattle.appointments.proofs.laws.Tested.{not_whole, not_formed, not_named, not_lettered, not_few, not_termed, all_tested}
 use Rattle.appointments.proofs.testing.list_refused.Goals as goal
 
 pub returns-then-list-ne0 : goal.returns-then-list-ne0
-unfolding appointment_needs
-returns-then-list-ne0 c = inl ((λ f. c.if-list-ne0.true f.whole), refl)
+returns-then-list-ne0 c = not_whole c.args.list.now c.if-list-ne0.true
 
 pub returns-then-not-all_pass : goal.returns-then-not-all_pass
-unfolding appointment_needs
-returns-then-not-all_pass c = inl ((λ f. no_not c.all_pass.result (ap not c.if-not-all_pass.true) (each_formed c.args.list.now f) c.all_pass.ensures), refl)
+returns-then-not-all_pass c =
+    let w = c.all_pass.ensures.no c.if-not-all_pass.true in
+    not_formed c.args.list.now (w.0, w.1, w.2.1)
 
 pub returns-then-not-all_pass-2 : goal.returns-then-not-all_pass-2
-unfolding appointment_needs PassesTest
 returns-then-not-all_pass-2 c =
-    let f = formed c.args.list.now (omega (arith, c.if-list-ne0.false)) (yes_not c.all_pass.result (ap not c.if-not-all_pass.false) c.all_pass.ensures) in
-    inr (f, inl ((λ p. no_not c.all_pass-2.result (ap not c.if-not-all_pass-2.true) p c.all_pass-2.ensures), refl))
+    let w = c.all_pass-2.ensures.no c.if-not-all_pass-2.true in
+    not_named c.args.list.now (omega (arith, c.if-list-ne0.false)) (λ i h. (c.all_pass.ensures.yes c.if-not-all_pass.false i h).1)
+    (w.0, w.1, w.2.1)
 
 pub returns-then-not-all_pass-3 : goal.returns-then-not-all_pass-3
-unfolding appointment_needs PassesTest
 returns-then-not-all_pass-3 c =
-    let f = formed c.args.list.now (omega (arith, c.if-list-ne0.false)) (yes_not c.all_pass.result (ap not c.if-not-all_pass.false) c.all_pass.ensures) in
-    inr (
-      f,
-      inr (
-        yes_not c.all_pass-2.result (ap not c.if-not-all_pass-2.false) c.all_pass-2.ensures,
-        inl ((λ p. no_not c.all_pass-3.result (ap not c.if-not-all_pass-3.true) (each_masked c.args.list.now (λ j. omega (arith, c.type_inv.list j)) f p) c.all_pass-3.ensures), refl),
-      ),
-    )
+    let w = c.all_pass-3.ensures.no c.if-not-all_pass-3.true in
+    not_lettered c.args.list.now (omega (arith, c.if-list-ne0.false)) (λ i h. (c.all_pass.ensures.yes c.if-not-all_pass.false i h).1)
+    (λ i h. (c.all_pass-2.ensures.yes c.if-not-all_pass-2.false i h).1) (λ j. omega (arith, c.type_inv.list j)) (w.0, w.1, w.2.1)
 
 pub returns-then-count_in-gt-MOST : goal.returns-then-count_in-gt-MOST
-unfolding appointment_needs PassesTest
 returns-then-count_in-gt-MOST c =
-    let f = formed c.args.list.now (omega (arith, c.if-list-ne0.false)) (yes_not c.all_pass.result (ap not c.if-not-all_pass.false) c.all_pass.ensures) in
-    inr (
-      f,
-      inr (
-        yes_not c.all_pass-2.result (ap not c.if-not-all_pass-2.false) c.all_pass-2.ensures,
-        inr (
-          masked c.args.list.now (λ j. omega (arith, c.type_inv.list j)) f (yes_not c.all_pass-3.result (ap not c.if-not-all_pass-3.false) c.all_pass-3.ensures),
-          inl ((λ p. omega (arith, p.few, c.if-count_in-gt-MOST.true, c.count_in.ensures)), refl),
-        ),
-      ),
-    )
+    not_few c.args.list.now (omega (arith, c.if-list-ne0.false)) (λ i h. (c.all_pass.ensures.yes c.if-not-all_pass.false i h).1)
+    (λ i h. (c.all_pass-2.ensures.yes c.if-not-all_pass-2.false i h).1) (λ j. omega (arith, c.type_inv.list j))
+    (λ i h. (c.all_pass-3.ensures.yes c.if-not-all_pass-3.false i h).1) (λ few. omega (arith, few, c.if-count_in-gt-MOST.true, c.count_in.ensures))
 
 pub returns-then-not-all_pass-4 : goal.returns-then-not-all_pass-4
-unfolding appointment_needs PassesTest
 returns-then-not-all_pass-4 c =
-    let f = formed c.args.list.now (omega (arith, c.if-list-ne0.false)) (yes_not c.all_pass.result (ap not c.if-not-all_pass.false) c.all_pass.ensures) in
-    inr (
-      f,
-      inr (
-        yes_not c.all_pass-2.result (ap not c.if-not-all_pass-2.false) c.all_pass-2.ensures,
-        inr (
-          masked c.args.list.now (λ j. omega (arith, c.type_inv.list j)) f (yes_not c.all_pass-3.result (ap not c.if-not-all_pass-3.false) c.all_pass-3.ensures),
-          inl ((λ p. no_not c.all_pass-4.result (ap not c.if-not-all_pass-4.true) p.terms c.all_pass-4.ensures), refl),
-        ),
-      ),
-    )
+    let w = c.all_pass-4.ensures.no c.if-not-all_pass-4.true in
+    not_termed c.args.list.now (omega (arith, c.if-list-ne0.false)) (λ i h. (c.all_pass.ensures.yes c.if-not-all_pass.false i h).1)
+    (λ i h. (c.all_pass-2.ensures.yes c.if-not-all_pass-2.false i h).1) (λ j. omega (arith, c.type_inv.list j))
+    (λ i h. (c.all_pass-3.ensures.yes c.if-not-all_pass-3.false i h).1) (w.0, w.1, w.2.1)
 
 pub returns : goal.returns
-unfolding appointment_needs PassesTest
 returns c =
-    let f = formed c.args.list.now (omega (arith, c.if-list-ne0.false)) (yes_not c.all_pass.result (ap not c.if-not-all_pass.false) c.all_pass.ensures) in
-    inr (
-      f,
-      inr (
-        yes_not c.all_pass-2.result (ap not c.if-not-all_pass-2.false) c.all_pass-2.ensures,
-        inr (
-          masked c.args.list.now (λ j. omega (arith, c.type_inv.list j)) f (yes_not c.all_pass-3.result (ap not c.if-not-all_pass-3.false) c.all_pass-3.ensures),
-          inr (
-            record {
-              few = omega (arith, c.if-count_in-gt-MOST.false, c.count_in.ensures);
-              terms = yes_not c.all_pass-4.result (ap not c.if-not-all_pass-4.false) c.all_pass-4.ensures;
-            },
-            refl,
-          ),
-        ),
-      ),
-    )
+    all_tested c.args.list.now (omega (arith, c.if-list-ne0.false)) (λ i h. (c.all_pass.ensures.yes c.if-not-all_pass.false i h).1)
+    (λ i h. (c.all_pass-2.ensures.yes c.if-not-all_pass-2.false i h).1) (λ j. omega (arith, c.type_inv.list j))
+    (λ i h. (c.all_pass-3.ensures.yes c.if-not-all_pass-3.false i h).1) (omega (arith, c.if-count_in-gt-MOST.false, c.count_in.ensures))
+    (λ i h. (c.all_pass-4.ensures.yes c.if-not-all_pass-4.false i h).1)

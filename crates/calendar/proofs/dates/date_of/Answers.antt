@@ -9,7 +9,7 @@ use Rattle.calendar.proofs.dates.date_of.Goals as goal
 
 pub returns-then-day-gt-LAST_DAY : goal.returns-then-day-gt-LAST_DAY
 unfolding DateOf DateAnswers
-returns-then-day-gt-LAST_DAY c = (omega arith, inl ((λ i. omega (arith, day_most c.args.day i)), refl))
+returns-then-day-gt-LAST_DAY c = inl (λ i. omega (arith, day_most c.args.day i), refl)
 
 pub months_over-months-requires : goal.months_over-months-requires
 unfolding years_days

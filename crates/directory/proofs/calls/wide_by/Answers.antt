@@ -1,46 +1,31 @@
 -- `calls::wide_by` meets its contract: refused for the directory; or the message, and where it is accepted the directory made afresh.
 use mathlib.Core.Path.{refl}
-use Rattle.index.specs.Block.{Good}
 use Rattle.index.specs.Wide.Sent.{wide}
-use Rattle.index.proofs.laws.Answer.{yes_not, no_not}
-use Rattle.directory.specs.Directory.{Own}
+use Rattle.index.proofs.laws.Refusing.{some, passed_on}
+use Rattle.directory.specs.By.{SendsBy}
 use Rattle.directory.proofs.Keeping.{sent_other, sent_good, sent_kept}
-use Rattle.std.proofs.Common.{ap}
-use mathlib.Core.Bool.{not}
 use Rattle.directory.proofs.calls.wide_by.Goals as goal
 
-pub returns-then-not-own : goal.returns-then-not-own
-returns-then-not-own c =
-    let args = c.args in
-    let other : Good args.block.now → Own args.block.now args.directory.now → ⊥ = λ g p. no_not c.own.result (ap not c.if-not-own.true) p (c.own.ensures g) in
-    sent_other args.block.now args.directory.now (wide args.message.now) _ other (c.refused.ensures args.directory.now other)
+pub returns-in_err-owned : goal.returns-in_err-owned
+returns-in_err-owned c =
+    let a = c.args in
+    passed_on (λ n. SendsBy a.block.now a.directory.now (wide a.message.now) (n, 0, a.block.now, a.directory.now)) c.from_residual.result _ c.from_residual.ensures.1
+    (sent_other _ _ _ _ (some _) c.in_err-owned.ensures.other)
 
--- The directory is a good block's own.
-owned : (c : goal.After-fill-arg-1) → let args = c.args in Good args.block.now → Own args.block.now args.directory.now
-owned c g = yes_not c.own.result (ap not c.if-not-own.false) (c.own.ensures g)
-
--- The directory is a good block's own.
-owned_2 : (c : goal.After-slice_known-then-number-eq0-1) → let args = c.args in Good args.block.now → Own args.block.now args.directory.now
-owned_2 c g = yes_not c.own.result (ap not c.if-not-own.false) (c.own.ensures g)
-
--- The directory is a good block's own.
-owned_3 : (c : goal.Else-number-eq0) → let args = c.args in Good args.block.now → Own args.block.now args.directory.now
-owned_3 c g = yes_not c.own.result (ap not c.if-not-own.false) (c.own.ensures g)
+pub returns-in_err-wide : goal.returns-in_err-wide
+returns-in_err-wide c =
+    let a = c.args in
+    passed_on (λ n. SendsBy a.block.now a.directory.now (wide a.message.now) (n, 0, c.wide.new.block, a.directory.now)) c.from_residual-in_err-wide.result _
+    c.from_residual-in_err-wide.ensures.1
+    (sent_kept a.block.now (wide a.message.now) _ _ c.in_err-wide.ensures a.directory.now a.directory.now c.in_ok-owned.ensures.own (λ z. absurd (some _ z)) (λ s. refl))
 
 pub fill-requires : goal.fill-requires
 fill-requires c =
-    let args = c.args in
-    let good = sent_good args.block.now (wide args.message.now) _ _ c.wide-number.ensures c.if-number-eq0.true in
-    (good.1, (owned c good.0).whole)
+    let a = c.args in
+    let good = sent_good a.block.now (wide a.message.now) _ _ c.in_ok-wide.ensures refl in
+    (good.1, (c.in_ok-owned.ensures.own good.0).whole)
 
-pub returns-then-number-eq0 : goal.returns-then-number-eq0
-returns-then-number-eq0 c =
-    let args = c.args in
-    sent_kept args.block.now (wide args.message.now) _ _ c.wide-number.ensures args.directory.now _ (owned_2 c) (λ z. c.fill.ensures)
-    (λ some. absurd (some c.if-number-eq0.true))
-
-pub returns-else-number-eq0 : goal.returns-else-number-eq0
-returns-else-number-eq0 c =
-    let args = c.args in
-    sent_kept args.block.now (wide args.message.now) _ _ c.wide-number.ensures args.directory.now args.directory.now (owned_3 c)
-    (λ z. absurd (c.if-number-eq0.false z)) (λ some. refl)
+pub returns : goal.returns
+returns c =
+    let a = c.args in
+    sent_kept a.block.now (wide a.message.now) _ _ c.in_ok-wide.ensures a.directory.now _ c.in_ok-owned.ensures.own (λ z. c.fill.ensures) (λ some. absurd (some refl))

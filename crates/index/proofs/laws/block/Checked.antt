@@ -6,10 +6,9 @@ use mathlib.Core.Logic.{⊎_elim}
 use mathlib.Core.List.{List}
 use native.Mathlib.Nat.{eq-or-lt_of_le}
 use native.Mathlib.Omega.{arith}
-use borrow.Author.Tests.{eqb-true, eqb-false}
 use lib.Bits.{bit_or, or_shr, or_mod, or_add_and, and_le_l, and_le_r}
-use lib.Dec.{eqb, ltb}
-use lib.ListN.{length, get_or, get_or-eq_default}
+use lib.Dec.{ltb}
+use lib.ListN.{get_or}
 use Rattle.index.specs.declared.Kind.{Kind}
 use Rattle.index.specs.declared.Kind.TheVariants.{Membership, Permission, Filter}
 use Rattle.index.specs.declared.block.checks.Sight.{Sight}
@@ -202,17 +201,6 @@ part_fair {b} {kind} p whole =
       keys = p.keys.only_then (λ m k h. (whole.each m k h).key_below);
       ids = p.ids.only_then (λ m k h. (whole.each m k h).id_below);
     }
-
--- ---- bytes that are zero by their `or`
-
-pub zero_seen : (b : List ℕ) {j t seen : ℕ} → length b ≤ t → Seen 0 (λ n. get_or b n 0) j t seen → Says (Zero b j) (eqb seen 0)
-zero_seen b {j} {t} {seen} l s = go (eqb seen 0) refl
-  where
-    go : (r : Bool) → eqb seen 0 ≡ r → Says (Zero b j) r
-    go true e =
-        λ n k.
-        ⊎_elim (λ h. omega (arith, s.each_then (omega (arith, eqb-true seen 0 e)) n k h)) (λ h. get_or-eq_default b 0 {n = n} (omega arith)) (lt_or_le n t)
-    go false e = λ z. eqb-false seen 0 e (omega (arith, s.only_then (λ n k h. omega (arith, z n k))))
 
 -- ---- the whole
 

@@ -39,17 +39,6 @@ module _ {b : List ℕ} (kind : Kind) {want first end : ℕ} (s : first ≡ from
         above = λ i o h. w.above i (omega arith) (omega arith);
       }
 
-  -- Where the search goes on from the first record not below a lower one.
-  pub going_on : {less lo : ℕ} → less ≤ want → Lowest b kind less lo → Between b want first end lo end
-  going_on l w =
-      record {
-        low = omega (arith, w.low);
-        middle = omega (arith, w.high);
-        high = omega arith;
-        below = λ i o h. omega (arith, w.below i (omega (arith, w.high)) h);
-        above = λ i o h. absurd (omega arith);
-      }
-
   module _ (g : Good b) {lo hi : ℕ} (mid : ℕ) (l : lo ≤ mid) (h : mid < hi) (w : Between b want first end lo hi) where
     pub in_part : Of b kind mid
     in_part = omega (arith, w.low, w.high)

@@ -5,7 +5,7 @@ use mathlib.Core.Bool.{Bool, true, false, cond, ◌&&◌}
 use mathlib.Core.Logic.{⊎_elim, ◌↔◌}
 use native.Mathlib.Nat.{zero-div, div-eq_of_lt, div-one, div-div-eq-div-mul, pow-succ', pow-le-pow_right}
 use native.Mathlib.Omega.{arith}
-use borrow.Author.Tests.{ltb-true, le-ltb, eqb-true, eqb-false, eq-eqb, ne_eqb}
+use borrow.Author.Tests.{ltb-true, le-ltb, eqb-true, eqb-false, ne_eqb}
 use lib.Bits.{bit_and}
 use lib.Dec.{eqb, ltb}
 use Rattle.index.specs.declared.Kind.{Kind}
@@ -130,14 +130,6 @@ letters_test_lem kind r e k =
     go : (t : Bool) → bit r k ≡ cond t 1 0 → In k r ↔ (t ≡ true)
     go true z = (λ i. refl, λ m. z)
     go false z = (λ i. absurd (omega arith), λ m. let y : ◌≡◌ {A = ℕ} 0 1 = cc in absurd (omega arith))
-
--- The bit of a letter in it is the test of kind and letter.
-pub bit_may : (kind : Kind) (r : ℕ) → Letters kind r → (k : ℕ) → eqb (bit r k) 1 ≡ may_have kind k
-bit_may kind r are k = go (may_have kind k) refl
-  where
-    go : (t : Bool) → may_have kind k ≡ t → eqb (bit r k) 1 ≡ t
-    go true e = eq-eqb _ _ ((are k).1 e)
-    go false e = ne_eqb _ _ (λ i. not_both kind k e ((are k).0 i))
 
 -- Numbers with the same bits are equal.
 same_bits : (a b : ℕ) → ((k : ℕ) → bit a k ≡ bit b k) → a ≡ b

@@ -33,9 +33,6 @@ pub record Some (f : ℕ → ℕ) (t seen : ℕ) : Type 0 where
   pub one_then : 0 < seen → (n : ℕ) × (n < t) × (0 < f n)
   pub then_one : (n : ℕ) → n < t → 0 < f n → 0 < seen
 
-pub some_none : (f : ℕ → ℕ) → Some f 0 0
-some_none f = record { one_then = λ h. absurd (omega arith); then_one = λ n l h. absurd (omega arith) }
-
 pub some_more : {f : ℕ → ℕ} {t seen v : ℕ} → v ≡ f t → Some f t seen → Some f (t + 1) (bit_or seen v)
 some_more {f} {t} {seen} {v} e s =
     let o = or_add_and seen v in

@@ -3,7 +3,6 @@ use Prim.Native.Nat.{ℕ, ◌+◌, ◌*◌, ◌<◌, ◌≤◌}
 use mathlib.Core.Path.{◌≡◌, ◌∙◌}
 use mathlib.Core.List.{List}
 use native.Mathlib.Omega.{arith}
-use lib.ListN.{length}
 use Rattle.index.specs.declared.Kind.{Kind}
 use Rattle.index.specs.declared.Kind.TheVariants.{Membership, Permission, Filter}
 use Rattle.index.specs.Block.{header_length, number, size, records, place, record_length}
@@ -48,16 +47,6 @@ headed {m} {p} {f} {b₂ = b₂} s o =
             end_offset = omega (arith, m_size, p_size, f_size, o.fourth);
             fits = omega (arith, m_size, p_size, f_size, s.rest.same_length, o.rest.same_length);
           };
-    }
-
-pub resized : (kind : Kind) {m p f n : ℕ} {b b' : List ℕ} → Headed m p f b b' → three m p f kind ≡ n
-    → ((K : Kind) → (K ≡ kind → ⊥) → three m p f K ≡ size b K) → place (m + p + f) ≤ length b → Resized kind n b b'
-resized kind h e o l =
-    record {
-      rest = h.rest;
-      own = h.sizes kind ∙ e;
-      other = λ K ne. h.sizes K ∙ o K ne;
-      header = h.header l;
     }
 
 -- ---- a splice, from the bytes and the header

@@ -1,7 +1,6 @@
 -- Each public call has one possible answer: make, write_set and read_set. (For message: OneMessage.)
 use Prim.Native.Nat.{ℕ, ◌<◌}
-use native.Mathlib.Omega.{arith}
-use mathlib.Core.Path.{◌≡◌, sym, ◌∙◌, ap, subst}
+use mathlib.Core.Path.{◌≡◌, sym, ◌∙◌, subst}
 use mathlib.Core.List.{List, [], ◌∷◌}
 use Rattle.index.specs.declared.Kind.{Kind}
 use Rattle.index.specs.Letters.{letter_count}
@@ -9,17 +8,17 @@ use Rattle.index.specs.Block.{count}
 use Rattle.index.specs.Message.{kind_of}
 use Rattle.index.specs.Numbers.{First}
 use Rattle.index.specs.Text.{Entry, Replaced}
-use Rattle.index.specs.declared.Wrote.{Wrote}
-use Rattle.index.specs.declared.Wrote.TheVariants as wrote
-use Rattle.index.specs.declared.Took.{Took}
-use Rattle.index.specs.declared.Took.TheVariants as took
-use Rattle.index.specs.Calls.{WroteMeans, TookMeans, WriteAnswers, ReadAnswers, make_needs, set_needs, write_needs, Made, Makes, Written, WritesSet, Read, RoomFor, OfNone, OfSet, ReadsText, ReadsSet}
+use Rattle.std.specs.Prelude.{Result}
+use Rattle.index.specs.declared.refusals.Refusal.{Refusal}
+use Rattle.index.specs.declared.refusals.ReadError.{ReadError}
+use Rattle.index.specs.Calls.{WriteAnswers, ReadAnswers, make_needs, set_needs, write_needs, Made, Makes, Written, WritesSet, Read, RoomFor, OfNone, OfSet, ReadsText, ReadsSet}
 use mathlib.Core.Logic.{inl, inr, ⊎_elim}
 use native.Mathlib.Decide.{ℕ_discrete}
 use Rattle.index.proofs.laws.block.ThreeKinds.{kind?}
 use Rattle.index.proofs.laws.text.TextOnce.{writes_once}
 use Rattle.index.proofs.laws.block.Canonical.{canonical}
 use Rattle.index.proofs.laws.OneFirst.{one_first}
+use Rattle.index.proofs.laws.OneResult.{answers_once, read_once}
 use Rattle.index.proofs.laws.text.Placing.{place_once}
 use Rattle.index.proofs.laws.demands.Standing.{no_count}
 
@@ -83,43 +82,15 @@ unfolding ReadsSet
 one_read b kind x text =
     one_first (λ n. (n, 0, b)) (set_needs b kind x) (ReadsText b (kind_of kind) x text) (one_text b (kind_of kind) x text)
 
--- ---- the same for the answers of the code, of any call with one outcome: its number, its value, and what it leaves
-
-module _ {S : Type 0} (Outcome : ℕ × ℕ × S → Type 0) (one : (o o' : ℕ × ℕ × S) → Outcome o → Outcome o' → o ≡ o') where
-  module _ {n m : ℕ} {s t : S} where
-    one_value : {k : ℕ} → Outcome (k, n, s) → Outcome (k, m, t) → (n ≡ m) × (s ≡ t)
-    one_value p q = let e = one _ _ p q in (ap (λ (o : ℕ × ℕ × S). o.1) e, ap (λ (o : ℕ × ℕ × S). o.2) e)
-
-    one_number : Outcome (n, 0, s) → Outcome (m, 0, t) → (n ≡ m) × (s ≡ t)
-    one_number p q = let e = one _ _ p q in (ap (λ (o : ℕ × ℕ × S). o.0) e, ap (λ (o : ℕ × ℕ × S). o.2) e)
-
-    not_both : {k l : ℕ} → (k ≡ l → ⊥) → Outcome (k, n, s) → Outcome (l, m, t) → ⊥
-    not_both d p q = d (ap (λ (o : ℕ × ℕ × S). o.0) (one _ _ p q))
-
-  pub wrote_once : (r r' : Wrote) (s t : S) → WroteMeans (λ n v. Outcome (n, v, s)) r → WroteMeans (λ n v. Outcome (n, v, t)) r'
-      → (r ≡ r') × (s ≡ t)
-  wrote_once (wrote.Text n) (wrote.Text m) s t p q = let e = one_value p q in (ap wrote.Text e.0, e.1)
-  wrote_once (wrote.Text n) (wrote.Refused m) s t p q = absurd (not_both (λ e. omega (arith, q.0)) p q.1)
-  wrote_once (wrote.Refused n) (wrote.Text m) s t p q = absurd (not_both (λ e. omega (arith, p.0)) p.1 q)
-  wrote_once (wrote.Refused n) (wrote.Refused m) s t p q = let e = one_number p.1 q.1 in (ap wrote.Refused e.0, e.1)
-
-  pub took_once : (r r' : Took) (s t : S) → TookMeans (λ n v. Outcome (n, v, s)) r → TookMeans (λ n v. Outcome (n, v, t)) r'
-      → (r ≡ r') × (s ≡ t)
-  took_once (took.Set n) (took.Set m) s t p q = let e = one_value p q in (ap took.Set e.0, e.1)
-  took_once (took.Wrong n) (took.Wrong m) s t p q = let e = one_value p q in (ap took.Wrong e.0, e.1)
-  took_once (took.Refused n) (took.Refused m) s t p q = let e = one_number p.2 q.2 in (ap took.Refused e.0, e.1)
-  took_once (took.Set n) (took.Wrong m) s t p q = absurd (not_both (λ e. omega arith) p q)
-  took_once (took.Wrong n) (took.Set m) s t p q = absurd (not_both (λ e. omega arith) p q)
-  took_once (took.Set n) (took.Refused m) s t p q = absurd (not_both (λ e. omega (arith, q.0)) p q.2)
-  took_once (took.Refused n) (took.Set m) s t p q = absurd (not_both (λ e. omega (arith, p.0)) p.2 q)
-  took_once (took.Wrong n) (took.Refused m) s t p q = absurd (not_both (λ e. q.1 (sym e)) p q.2)
-  took_once (took.Refused n) (took.Wrong m) s t p q = absurd (not_both p.1 p.2 q)
+-- ---- the same for the answers of the code
 
 module _ (b : List ℕ) (kind x : ℕ) (s : List ℕ) where
-  pub one_wrote : (r r' : Wrote) (o o' : List ℕ) → WriteAnswers b kind x s r o → WriteAnswers b kind x s r' o' → (r ≡ r') × (o ≡ o')
+  pub one_wrote : (r r' : Result ℕ Refusal) (o o' : List ℕ) → WriteAnswers b kind x s r o → WriteAnswers b kind x s r' o'
+      → (r ≡ r') × (o ≡ o')
   unfolding WriteAnswers
-  one_wrote = wrote_once (WritesSet b kind x s) (one_write b kind x s)
+  one_wrote = answers_once (λ n. n) 0 (λ n m e. e) (WritesSet b kind x s) (one_write b kind x s)
 
-  pub one_took : (r r' : Took) (o o' : List ℕ) → ReadAnswers b kind x s r o → ReadAnswers b kind x s r' o' → (r ≡ r') × (o ≡ o')
+  pub one_took : (r r' : Result ℕ ReadError) (o o' : List ℕ) → ReadAnswers b kind x s r o → ReadAnswers b kind x s r' o'
+      → (r ≡ r') × (o ≡ o')
   unfolding ReadAnswers
-  one_took = took_once (ReadsSet b kind x s) (one_read b kind x s)
+  one_took = read_once (ReadsSet b kind x s) (one_read b kind x s)

@@ -14,7 +14,10 @@ use Rattle.index.specs.Numbers.{Each}
 use Rattle.index.specs.Message.{kind_of, kind_number, Half, half_count, flags, present, half_at, halves, previous, new, marker_mask, Marked, Masked, changes}
 use Rattle.index.specs.Message.Change.{take, add}
 use Rattle.index.specs.Wide.Sent.{plain}
+use Rattle.index.specs.declared.messages.beginning.Which.{Which}
+use Rattle.index.specs.declared.messages.beginning.Which.TheVariants as which
 use Rattle.index.specs.work.Checks.{Says}
+use Rattle.index.specs.work.Halves.{half_number}
 use Rattle.index.specs.work.Edits.{bit, Ready, Tested}
 use Rattle.index.proofs.laws.Answer.{says_same}
 use Rattle.index.proofs.laws.Range.{lt_or_le, Listed, listed}
@@ -25,6 +28,11 @@ pub each_half : (P : ℕ → Type 0) → P 0 → P 1 → (h : ℕ) → h < half_
 each_half P p q zero l = p
 each_half P p q (suc zero) l = q
 each_half P p q (suc (suc h)) l = absurd (omega arith)
+
+-- The code has no other.
+pub half_below : (h : Which) → half_number h < half_count
+half_below which.Previous = omega arith
+half_below which.New = omega arith
 
 -- What holds of each in two lists, and in both together.
 module _ (P : Half → Type 0) where

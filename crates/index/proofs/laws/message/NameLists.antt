@@ -7,9 +7,8 @@ use native.Mathlib.Numerals.{add-one}
 use lib.ListN.{length}
 use Rattle.index.specs.Block.{number}
 use Rattle.index.specs.Numbers.{Each}
-use Rattle.index.specs.Message.{half_count}
 use Rattle.index.specs.Wide.{list_count, list_length, list_offset, list_place, names_from, Rising, WideFormed}
-use Rattle.index.specs.work.Pairing.{InPlace, HalfFormed}
+use Rattle.index.specs.work.Pairing.{InPlace}
 use Rattle.index.proofs.laws.Range.{listed}
 
 -- The name at place j of the names from byte i on.
@@ -92,6 +91,3 @@ module _ (m : List ℕ) where
 module _ {m : List ℕ} (w : WideFormed m) where
   pub formed_place : InPlace m
   formed_place = record { header = w.header; offsets = w.offsets; ends = w.ends }
-
-  pub formed_half : (h : ℕ) → h < half_count → HalfFormed m h
-  formed_half h l = record { absent = w.absent h l; lists = w.lists h l }

@@ -7,7 +7,9 @@ use native.Mathlib.Omega.{arith}
 use lib.Dec.{eqb}
 use lib.ListN.{length, get_or}
 use Rattle.index.specs.Numbers.{Each}
-use Rattle.index.specs.Message.{kind_of, Half, packed, packed_kind, packed_half, packed_change}
+use Rattle.index.specs.declared.Kind.{Kind}
+use Rattle.index.specs.declared.Kind.TheVariants.{Membership, Permission, Filter}
+use Rattle.index.specs.Message.{kind_of, kind_number, Half, packed, packed_kind, packed_half, packed_change}
 use Rattle.index.specs.Message.Change.{take, add}
 use Rattle.index.specs.work.Edits.{half, change_of, Ready, Prepared}
 use Rattle.index.proofs.laws.message.HalfLetters.{half_of}
@@ -39,6 +41,17 @@ module _ (kind x y mask : ℕ) (lx : x < 65536) (ly : y < 65536) (lm : mask < 65
   unfolding packed_change packed
   unpacked true = rw (bit_last 1 rest (omega arith), half_of_lem 1 (omega arith))
   unpacked false = rw (bit_last 0 rest (omega arith), half_of_lem 0 (omega arith))
+
+-- The same where the kind is given by its number.
+number_kind : (kind : Kind) → kind_of (kind_number kind) ≡ kind
+unfolding kind_of kind_number
+number_kind Membership = refl
+number_kind Permission = refl
+number_kind Filter = refl
+
+pub packed_back : (kind : Kind) (x y mask : ℕ) → x < 65536 → y < 65536 → mask < 65536 → (adds : Bool)
+    → packed_change (packed adds (kind_number kind) x y mask) ≡ change_of adds (half kind x y mask)
+packed_back kind x y mask lx ly lm adds = rw (unpacked (kind_number kind) x y mask lx ly lm adds, number_kind kind)
 
 -- ---- a list of changes is prepared where each of them is
 

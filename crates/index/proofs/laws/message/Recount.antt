@@ -8,7 +8,7 @@ use native.Mathlib.Omega.{arith}
 use Rattle.index.specs.Letters.{letter_count}
 use Rattle.index.specs.Block.{place, count_at}
 use Rattle.index.specs.work.Bytes.{Put, Inside}
-use Rattle.index.specs.work.Edits.{bit, Recounted}
+use Rattle.index.specs.work.Edits.{bit}
 use Rattle.index.proofs.laws.block.Bytes.{inside_none, inside_then, number_below, number_above, count_number}
 use Rattle.index.proofs.laws.Range.{lt_or_le}
 
@@ -43,6 +43,3 @@ stepped {i} {less} {more} {k} {v} {b₀} {b} {b'} p l w e =
           ];
       still = λ n h m. unwritten i k n w (omega arith) m ∙ p.still n (omega arith) m;
     }
-
-pub finished : {i less more k : ℕ} {b₀ b : List ℕ} → Partly i less more k b₀ b → letter_count ≤ k → Recounted i less more b₀ b
-finished p l = record { rest = p.rest; counts = λ n h. p.written n (omega arith) h }

@@ -14,14 +14,14 @@ use Rattle.index.specs.work.Checks.{Counted}
 use Rattle.index.specs.Message.{Half, Masked, Changed, own_count, change_needs}
 use Rattle.index.specs.Message.Change.{take, add}
 use Rattle.index.specs.work.Places.{At, Gap}
-use Rattle.index.specs.work.Edits.{bit, Allows, Left, Opens, Recounted, NewRecord, Ready, Freed, Step}
+use Rattle.index.specs.work.Edits.{bit, Allows, Left, Recounted, NewRecord, Ready, Freed, Step}
 use Rattle.index.proofs.laws.block.Bytes.{count_small}
 use Rattle.index.proofs.laws.message.Changes.{gap_none}
 use Rattle.index.proofs.laws.message.Edited.{recounted_is, removed_is, removed_records, inserted_is}
 use Rattle.index.proofs.laws.message.HalfLetters.{change_own}
 use Rattle.index.proofs.laws.block.MayHave.{bit_zero, some_letter, below}
 use Rattle.index.proofs.laws.Range.{lt_or_le}
-use Rattle.index.proofs.laws.block.Records.{of_records, gap_in, count_at_lem, count_none}
+use Rattle.index.proofs.laws.block.Records.{of_records, count_at_lem, count_none}
 
 -- 6 and 7 by the counts of the record.
 module _ (h : Half) {b : List ℕ} {j : ℕ} (g : Good b) (a : At b h.kind h.key h.id j) where
@@ -154,33 +154,7 @@ module _ (h : Half) {b b' : List ℕ} {j : ℕ} (r : Ready h b) (bytes : (t : �
       → Spliced h.kind j 0 1 b b₁ → NewRecord j h.key h.id h.mask b₁ b' → Step (add h) b 0 b'
   added_inserted gap l s w = add_inserted h gap l (inserted_is h r.good bytes r gap s w)
 
--- ---- what the code asks of a record, and of a splice
+-- ---- what the code asks of a record
 
 pub at_self : {b : List ℕ} {K : Kind} {i : ℕ} → Of b K i → At b K (key b i) (id b i) i
 at_self o = record { of = o; has_key = refl; has_id = refl }
-
-pub of_inside : {b : List ℕ} → Good b → (K : Kind) (i : ℕ) → Of b K i → place (i + 1) ≤ length b
-of_inside {b} g K i o = omega (arith, of_records K b i o, g.fits)
-
-pub opens_one : {h : Half} {b : List ℕ} {j : ℕ} → Ready h b → Of b h.kind j → Opens h.kind j 1 0 b
-opens_one {h} {b} {j} r o =
-    record {
-      short = r.short;
-      good = r.good;
-      low = o.0;
-      high = omega arith;
-      inside = omega (arith, of_records h.kind b j o);
-      room = omega (arith, r.good.fits);
-    }
-
-pub opens_none : {h : Half} {b : List ℕ} {x y j : ℕ} → Ready h b → Gap b h.kind x y j → place (records b) + record_length ≤ length b
-    → Opens h.kind j 0 1 b
-opens_none {h} {b} {j = j} r g l =
-    record {
-      short = r.short;
-      good = r.good;
-      low = g.low;
-      high = omega (arith, g.high);
-      inside = omega (arith, gap_in h.kind b j g.high);
-      room = omega arith;
-    }

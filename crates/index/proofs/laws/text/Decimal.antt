@@ -8,6 +8,8 @@ use lib.ListN.{length, get_or, length-append}
 use lib.Dec.{ltb, leb}
 use native.Mathlib.Omega.{arith}
 use borrow.Author.Tests.{le-ltb, le-leb, lt-leb, ltb-false, leb-true}
+use Rattle.std.specs.Char.{is_ascii_digit}
+use Rattle.std.proofs.lemmas.Bool.Decides.{nat_tests}
 use Rattle.index.specs.Text.{digits_of, most_digits, decimal}
 use Rattle.index.specs.work.Longest.{field_digits}
 use Rattle.index.specs.work.Reading.{digit}
@@ -17,6 +19,11 @@ use Rattle.index.proofs.laws.text.Digits.{digits_small, digits_step, digits_more
 -- the first byte; `;` where there is none
 abbrev pub first : List ℕ → ℕ
 first t = get_or t 0 59
+
+-- The library's test of a byte is that of a digit.
+pub digit_test : (b : ℕ) → digit b ≡ is_ascii_digit b
+unfolding digit
+digit_test b = grind (arith, nat_tests)
 
 pub digit_yes : (b : ℕ) → 48 ≤ b → b ≤ 57 → digit b ≡ true
 unfolding digit

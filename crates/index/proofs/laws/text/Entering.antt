@@ -117,11 +117,6 @@ module _ {x first : ℕ} {text : List ℕ} {kind : Kind} {b₀ : List ℕ} {es :
   unfolding Writes
   taking_first w = record { is_set = w.0; left = sym w.1; done = filled_none }
 
-  pub taking_last : {b : List ℕ} {here i n : ℕ} → Taking x first text kind b₀ b here i es → i ≤ n → n ≤ i → Filled x first es n b₀ b
-  taking_last {b} {i = i} {n = n} t l h =
-      let e : i ≡ n = omega arith in
-      subst (λ (m : ℕ). Filled x first es m b₀ b) e t.done
-
   module _
       {b : List ℕ}
       {here i : ℕ}

@@ -5,12 +5,13 @@ use mathlib.Core.Bool.{Bool, true, false, cond, ◌&&◌}
 use mathlib.Core.List.{List, [], ◌∷◌, ◌++◌, append_assoc, append-nil}
 use lib.ListN.{length, take, drop, get_or, set, drop_of_length-le}
 use lib.Seq.{drop-cons, take-suc-set, take_all}
+use Rattle.std.specs.Prelude.{Some, None}
 use Rattle.index.specs.declared.Kind.{Kind}
 use Rattle.index.specs.Letters.{letter_count, letters, may_have}
 use lib.Dec.{leb}
 use native.Mathlib.Numerals.{add-one}
 use borrow.Author.Tests.{le-leb, lt-leb, eq-eqb, ne_eqb}
-use Rattle.index.specs.work.Reading.{Parsed, and_then, digit, reaches, begins, ends, read_digits, read_number, read_count, no_byte, read_letter, read_counts, read_mark, total}
+use Rattle.index.specs.work.Reading.{Parsed, and_then, digit, reaches, begins, ends, read_digits, read_number, read_count, read_letter, read_counts, read_mark}
 use native.Mathlib.Omega.{arith}
 use Rattle.index.specs.work.Reading.Parsed.{got, wrong}
 use Rattle.index.specs.Block.{greatest_count}
@@ -121,20 +122,20 @@ module _ (t : List ℕ) (at : ℕ) where
     letter_end h = rw (end h)
 
     -- The byte there is that of the letter, if it may stand there.
-    pub letter_byte : at < length t → get_or t at 0 < no_byte → get_or t at 0 ≡ cond may l no_byte → read_letter may l (drop at t) ≡ read_count (drop (at + 1) t)
+    pub letter_byte : at < length t → Some (get_or t at 0) ≡ cond may (Some l) None → read_letter may l (drop at t) ≡ read_count (drop (at + 1) t)
     unfolding read_letter
-    letter_byte h s e = go may e
+    letter_byte h e = go may e
       where
-        go : (m : Bool) → get_or t at 0 ≡ cond m l no_byte → read_letter m l (drop at t) ≡ read_count (drop (at + 1) t)
-        go true e = rw (front h) (simp (eq-eqb _ _ e))
-        go false e = absurd (omega arith)
+        go : (m : Bool) → Some (get_or t at 0) ≡ cond m (Some l) None → read_letter m l (drop at t) ≡ read_count (drop (at + 1) t)
+        go true e = let same : get_or t at 0 ≡ l = cc in rw (front h) (simp (eq-eqb _ _ same))
+        go false e = cc
 
-    pub letter_other : at < length t → (get_or t at 0 ≡ cond may l no_byte → ⊥) → read_letter may l (drop at t) ≡ got 0 (drop at t)
+    pub letter_other : at < length t → (Some (get_or t at 0) ≡ cond may (Some l) None → ⊥) → read_letter may l (drop at t) ≡ got 0 (drop at t)
     unfolding read_letter
     letter_other h n = go may n
       where
-        go : (m : Bool) → (get_or t at 0 ≡ cond m l no_byte → ⊥) → read_letter m l (drop at t) ≡ got 0 (drop at t)
-        go true n = rw (front h) (simp (ne_eqb _ _ n))
+        go : (m : Bool) → (Some (get_or t at 0) ≡ cond m (Some l) None → ⊥) → read_letter m l (drop at t) ≡ got 0 (drop at t)
+        go true n = rw (front h) (simp (ne_eqb _ _ (λ e. n (ap Some e))))
         go false n = rw (front h)
 
   -- ---- `;`
@@ -149,16 +150,6 @@ module _ (t : List ℕ) (at : ℕ) where
   pub mark_none : at < length t → (get_or t at 0 ≡ 59 → ⊥) → read_mark (drop at t) ≡ wrong (drop at t)
   unfolding read_mark
   mark_none h e = rw (front h) (simp (ne_eqb _ _ e))
-
--- ---- totals
-pub total_from : (cs : List ℕ) (k : ℕ) → total (drop k cs) ≡ get_or cs k 0 + total (drop (k + 1) cs)
-total_from cs k = rw add-one (go cs k)
-  where
-    go : (cs : List ℕ) (k : ℕ) → total (drop k cs) ≡ get_or cs k 0 + total (drop (suc k) cs)
-    go [] ℕ.zero = refl
-    go [] (suc k) = refl
-    go (c ∷ cs) ℕ.zero = refl
-    go (c ∷ cs) (suc k) = go cs k
 
 -- ---- the counts of a record
 letters_from : (k : ℕ) → k < letter_count → drop k letters ≡ get_or letters k 0 ∷ drop (k + 1) letters

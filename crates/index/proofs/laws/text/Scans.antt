@@ -9,7 +9,7 @@ use native.Mathlib.Omega.{arith}
 use borrow.Author.Tests.{lt-ltb, le-ltb}
 use Rattle.index.specs.declared.Kind.{Kind}
 use Rattle.index.specs.Text.{Entry, entry_text, IsSet, Writes}
-use Rattle.index.specs.declared.Took.TheVariants as took
+use Rattle.std.specs.Prelude.{Err}
 use Rattle.index.specs.work.Pieces.{Scanned, more, rest}
 use Rattle.index.proofs.laws.text.SetText.{rest_next}
 use Rattle.index.specs.work.Reading.{Parsed, and_then, read_mark, read_record, read_more, read_records, parse}
@@ -65,7 +65,7 @@ joined_more es e (wrong s) = refl
 
 -- The text is of no set, and n is its place.
 abbrev pub Refused : Kind → List ℕ → ℕ → Type 0
-Refused kind text n = Scanned kind text (took.Wrong n)
+Refused kind text n = Scanned kind text (Err n)
 
 refused_at : (kind : Kind) (text : List ℕ) {s : List ℕ} → parse kind text ≡ wrong s → Refused kind text (length text - length s)
 refused_at kind text e = (parse_wrong kind text e, wrong_place kind text e)

@@ -7,27 +7,24 @@ use native.Mathlib.Omega.{arith}
 use lib.ListN.{length, drop}
 use lib.Seq.{sets, sets-eq}
 use Rattle.index.specs.declared.Kind.{Kind}
-use Rattle.index.specs.declared.Wrote.TheVariants as wrote
-use Rattle.index.specs.declared.Took.{Took}
-use Rattle.index.specs.declared.Took.TheVariants as took
-use Rattle.index.specs.Numbers.{Answers}
+use Rattle.std.specs.Prelude.{Ok, Err}
+use Rattle.index.specs.declared.refusals.Refusal.{Refusal}
+use Rattle.index.specs.declared.refusals.Refusal.TheVariants.{ShortBuffer, NoRoom}
+use Rattle.index.specs.declared.refusals.ReadError.TheVariants.{NotASet, Refused}
+use Rattle.index.specs.Numbers.{Answers, number}
 use Rattle.index.specs.Block.{IsName, Sized, Good, records, room}
 use Rattle.index.specs.Message.{kind_of}
 use Rattle.index.specs.Text.{Entry, text_of, set_of, Writes, Replaced}
 use Rattle.index.specs.Calls.{block_needs, set_needs, write_needs, Written, WritesSet, WriteAnswers, ReadsText, ReadsSet, ReadAnswers}
 use Rattle.index.specs.work.Pieces.{Scanned}
-use Rattle.index.proofs.laws.OneFirst.{first_cases}
-use Rattle.index.proofs.laws.Firsts.{All, all_hold, first_all, refuses, refused_first, passed_first}
+use Rattle.index.proofs.laws.Firsts.{All, passed, first_all, refuses, refused_first, passed_first}
+use Rattle.index.proofs.laws.Refusing.{above, some}
 
 -- ---- the shared tests
 
-pub block_held : (b : List ℕ) (r : ℕ) → r ≤ 0 → Answers (block_needs b) r → All (block_needs b)
-unfolding block_needs
-block_held b r h a = all_hold (block_needs b) r (omega arith) h a
-
-pub set_held : (b : List ℕ) (kind x r : ℕ) → r ≤ 0 → Answers (set_needs b kind x) r → All (set_needs b kind x)
+pub set_held : (b : List ℕ) (kind x : ℕ) → Answers (set_needs b kind x) 0 → All (set_needs b kind x)
 unfolding set_needs block_needs
-set_held b kind x r h a = all_hold (set_needs b kind x) r (omega arith) h a
+set_held b kind x a = passed (set_needs b kind x) (omega arith) refl a
 
 -- What they ask for.
 pub record Held (b : List ℕ) (kind x : ℕ) : Type 0 where
@@ -39,29 +36,21 @@ pub held : (b : List ℕ) (kind x : ℕ) → All (set_needs b kind x) → Held b
 unfolding set_needs block_needs
 held b kind x h = record { sized = h.0; good = h.1.0; named = h.1.1.1.0 }
 
--- None of them has the number 9.
-set_not_9 : (b : List ℕ) (kind x r : ℕ) → Answers (set_needs b kind x) r → r ≡ 9 → ⊥
-unfolding set_needs block_needs
-set_not_9 b kind x =
-    first_cases (λ r. r ≡ 9 → ⊥) (λ n. n ≡ 9 → ⊥) (λ n. n) (λ n. n ≡ 0) (λ n q. q) (λ r z e. omega arith) (set_needs b kind x) (omega arith)
-
 -- ---- write
 
 module _ (b : List ℕ) (kind x : ℕ) (out : List ℕ) where
-  pub wrote_refused : (r : ℕ) → 0 < r → Answers (set_needs b kind x) r → WriteAnswers b kind x out (wrote.Refused r) out
+  pub wrote_refused : (e : Refusal) → Answers (set_needs b kind x) (number e) → WriteAnswers b kind x out (Err e) out
   unfolding WriteAnswers WritesSet write_needs
-  wrote_refused r h a = (h, refused_first (λ n. (n, 0, out)) (set_needs b kind x) _ (Written b kind x out) r h a)
+  wrote_refused e a = refused_first (λ n. (n, 0, out)) (set_needs b kind x) _ (Written b kind x out) (number e) (above e) a
 
   module _ (h : All (set_needs b kind x)) (t : List ℕ) (e : text_of (set_of b (kind_of kind) x) ≡ t) where
-    pub wrote_long : length out < length t → WriteAnswers b kind x out (wrote.Refused 10) out
+    pub wrote_long : length out < length t → WriteAnswers b kind x out (Err ShortBuffer) out
     unfolding WriteAnswers WritesSet write_needs
-    wrote_long l = (
-      omega arith,
-      passed_first (λ n. (n, 0, out)) (set_needs b kind x) _ (Written b kind x out) (10, 0, out) h
-          (inl ((λ k. omega (arith, ap length e)), refl)),
-    )
+    wrote_long l =
+        passed_first (λ n. (n, 0, out)) (set_needs b kind x) _ (Written b kind x out) (10, 0, out) h
+        (inl ((λ k. omega (arith, ap length e)), refl))
 
-    pub wrote_text : {n : ℕ} {out' : List ℕ} → n ≡ length t → n ≤ length out → out' ≡ sets out 0 t → WriteAnswers b kind x out (wrote.Text n) out'
+    pub wrote_text : {n : ℕ} {out' : List ℕ} → n ≡ length t → n ≤ length out → out' ≡ sets out 0 t → WriteAnswers b kind x out (Ok n) out'
     unfolding WriteAnswers WritesSet write_needs
     wrote_text {n} {out'} p l q =
         let z : 0 + length t ≡ length t = omega arith in
@@ -75,10 +64,9 @@ module _ (b : List ℕ) (kind x : ℕ) (out : List ℕ) where
 -- ---- read
 
 module _ (b : List ℕ) (kind x : ℕ) (text : List ℕ) where
-  pub took_refused : (r : ℕ) → 0 < r → Answers (set_needs b kind x) r → ReadAnswers b kind x text (took.Refused r) b
+  pub took_refused : (e : Refusal) → Answers (set_needs b kind x) (number e) → ReadAnswers b kind x text (Err (Refused e)) b
   unfolding ReadAnswers ReadsSet
-  took_refused r h a =
-      (h, set_not_9 b kind x r a, refuses (λ n. (n, 0, b)) (ReadsText b (kind_of kind) x text) (set_needs b kind x) (λ e. omega arith) a)
+  took_refused e a = refuses (λ n. (n, 0, b)) (ReadsText b (kind_of kind) x text) (set_needs b kind x) (some e) a
 
   module _ (h : All (set_needs b kind x)) (K : Kind) (q : K ≡ kind_of kind) where
     there : (o : ℕ × ℕ × List ℕ) → ReadsText b K x text o → ReadsSet b kind x text o
@@ -87,21 +75,18 @@ module _ (b : List ℕ) (kind x : ℕ) (text : List ℕ) where
         first_all (λ n. (n, 0, b)) (ReadsText b (kind_of kind) x text) o (set_needs b kind x) h
         (subst (λ (L : Kind). ReadsText b L x text o) q w)
 
-    -- What came of the text is not how many records it is of, so it is of none, and wrong at its place.
-    pub took_wrong : (r : Took) → ((n : ℕ) → r ≡ took.Set n → ⊥) → Scanned K text r → ReadAnswers b kind x text r b
+    -- The text is of no set, and wrong at its place.
+    pub took_wrong : (n : ℕ) → Scanned K text (Err n) → ReadAnswers b kind x text (Err (NotASet n)) b
     unfolding ReadAnswers
-    took_wrong (took.Set n) o s = absurd (o n refl)
-    took_wrong (took.Wrong n) o s = there (9, n, b) (inl (s.0, refl, s.1, refl))
-    took_wrong (took.Refused n) o s = absurd s
+    took_wrong n s = there (9, n, b) (inl (s.0, refl, s.1, refl))
 
-    module _ {n old : ℕ} (s : Scanned K text (took.Set n)) (e : length (set_of b K x) ≡ old) where
-      pub took_full : room b + old < records b + n → ReadAnswers b kind x text (took.Refused 8) b
+    module _ {n old : ℕ} (s : Scanned K text (Ok n)) (e : length (set_of b K x) ≡ old) where
+      pub took_full : room b + old < records b + n → ReadAnswers b kind x text (Err (Refused NoRoom)) b
       unfolding ReadAnswers
-      took_full l =
-          (omega arith, (λ e. omega arith), there (8, 0, b) (inr (s.0, s.1, inl ((λ k. omega (arith, k, s.2, e)), refl))))
+      took_full l = there (8, 0, b) (inr (s.0, s.1, inl ((λ k. omega (arith, k, s.2, e)), refl)))
 
       pub took_set : {b' : List ℕ} → records b + n ≤ room b + old
-          → ((es : List Entry) → Writes K es text → length es ≡ n → Replaced K x es b b') → ReadAnswers b kind x text (took.Set n) b'
+          → ((es : List Entry) → Writes K es text → length es ≡ n → Replaced K x es b b') → ReadAnswers b kind x text (Ok n) b'
       unfolding ReadAnswers
       took_set {b'} l r =
           there (0, n, b') (inr (s.0, s.1, inr (omega (arith, s.2, e), (refl, sym s.2, r s.0 s.1 s.2))))

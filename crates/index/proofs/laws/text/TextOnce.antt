@@ -6,7 +6,7 @@ use lib.ListN.{length}
 use Rattle.index.specs.declared.Kind.{Kind}
 use Rattle.index.specs.Text.{Entry, text_of, IsSet, Writes}
 use Rattle.index.specs.work.Reading.{parse}
-use Rattle.index.specs.declared.Took.TheVariants as took
+use Rattle.std.specs.Prelude.{Ok}
 use Rattle.index.specs.work.Pieces.{Scanned}
 use Rattle.index.specs.work.Reading.Parsed.{got, wrong}
 use Rattle.index.proofs.laws.text.TakenApart.{not_got}
@@ -31,5 +31,5 @@ pub writes_once : (kind : Kind) (t : List ℕ) (es fs : List Entry) → Writes k
 unfolding Writes
 writes_once kind t es fs w v = text_once kind es fs w.0 v.0 (w.1 ∙ sym v.1)
 
-pub scanned_length : (kind : Kind) (t : List ℕ) (n : ℕ) (es : List Entry) → Scanned kind t (took.Set n) → Writes kind es t → length es ≡ n
+pub scanned_length : (kind : Kind) (t : List ℕ) (n : ℕ) (es : List Entry) → Scanned kind t (Ok n) → Writes kind es t → length es ≡ n
 scanned_length kind t n es s w = ap length (writes_once kind t es s.0 w s.1) ∙ s.2

@@ -32,9 +32,6 @@ pub record Going (at : ℕ) (all out₀ : List ℕ) (end : ℕ) (left out : List
   pub same_length : length out ≡ length out₀
   pub joins : (r : ℕ) (o : List ℕ) → Puts end left out r o → Puts at all out₀ r o
 
-pub going_first : (at : ℕ) (all out : List ℕ) → Going at all out at all out
-going_first at all out = record { same_length = refl; joins = λ r o p. p }
-
 pub going_next : {at end end' : ℕ} {all out₀ out out' : List ℕ} (now next : List ℕ) {left : List ℕ} → Going at all out₀ end left out
     → left ≡ now ++ next → Puts end now out end' out' → Going at all out₀ end' next out'
 going_next {end = end} {out = out} now next g e p =
@@ -52,9 +49,6 @@ set_past : (l : List ℕ) (i a : ℕ) → length l ≤ i → set l i a ≡ l
 set_past [] i a h = refl
 set_past (x ∷ l) ℕ.zero a h = absurd (omega arith)
 set_past (x ∷ l) (suc i) a h = ap (λ (r : List ℕ). x ∷ r) (set_past l i a (omega arith))
-
-pub byte_past : (at v : ℕ) (out : List ℕ) → length out ≤ at → Puts at (v ∷ []) out (at + 1) out
-byte_past at v out h = record { ends = refl; buffer = sym (set_past out at v h) }
 
 -- ---- a letter with its count
 

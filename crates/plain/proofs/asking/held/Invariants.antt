@@ -5,5 +5,5 @@ use Rattle.index.proofs.laws.block.Joining.{Joined}
 use Rattle.rights.specs.Held.{Holds}
 use Rattle.plain.proofs.asking.held.Given as goal
 
-abbrev pub invariant-loop-right : goal.invariant-loop-right
-invariant-loop-right l = (l.right ≤ right_count) × Joined (λ k. Holds l.limit l.block l.user l.object k × In k l.request) l.right l.rights
+abbrev pub invariant-loop-place : goal.invariant-loop-place
+invariant-loop-place l = (l.place ≤ right_count) × Joined (λ k. Holds l.limit l.block.bytes.now l.user l.object k × In k l.request) l.place l.rights

@@ -3,19 +3,20 @@ use native.Mathlib.Omega.{arith}
 use Rattle.index.proofs.laws.Answer.{no_is}
 use Rattle.index.proofs.laws.block.Records.{few_records}
 use Rattle.plain.proofs.laws.Holding.{lacks, passes_all}
+use Rattle.index.proofs.laws.block.Known.{good_known, sized_known}
 use Rattle.plain.proofs.filters.passes.Goals as goal
 
 pub overflow_add-first : goal.overflow_add-first
-overflow_add-first c = omega (arith, few_records c.requires.0 c.requires.1.0)
+overflow_add-first c = omega (arith, few_records (sized_known _ c.args.block.sized) (good_known _ c.args.block.good))
 
 pub overflow_add-end : goal.overflow_add-end
-overflow_add-end c = omega (arith, few_records c.requires.0 c.requires.1.0)
+overflow_add-end c = omega (arith, few_records (sized_known _ c.args.block.sized) (good_known _ c.args.block.good))
 
 pub returns-then-is_looked_at : goal.returns-then-is_looked_at
 returns-then-is_looked_at c =
-    lacks c.requires.1.0 _ _ c.loop-i.i c.requires.1.1 (omega arith, omega arith)
+    lacks (good_known _ c.args.block.good) _ _ c.loop-i.i c.args.right.small (omega arith, omega arith)
     (λ n. no_is c.if-not-has_right.true n c.has_right.ensures) (rw c.key_of.ensures at c.if-is_looked_at.ensures)
 
 pub returns : goal.returns
 returns c =
-    passes_all c.requires.1.0 _ _ c.requires.1.1 (λ i l h. c.loop-i.invariant.1 i (omega arith) (omega arith))
+    passes_all (good_known _ c.args.block.good) _ _ c.args.right.small (λ i l h. c.loop-i.invariant.1 i (omega arith) (omega arith))

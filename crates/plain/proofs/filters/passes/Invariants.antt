@@ -5,4 +5,4 @@ use Rattle.rights.specs.Held.{Looked}
 use Rattle.plain.proofs.filters.passes.Given as goal
 
 abbrev pub invariant-loop-i : goal.invariant-loop-i
-invariant-loop-i l = (l.first ≤ l.i) × ((j : ℕ) → l.first ≤ j → j < l.i → Looked l.block l.object (key l.block j) → NetAt l.block j l.right)
+invariant-loop-i l = (l.first ≤ l.i) × ((j : ℕ) → l.first ≤ j → j < l.i → Looked l.block.bytes.now l.object (key l.block.bytes.now j) → NetAt l.block.bytes.now j l.right.place)

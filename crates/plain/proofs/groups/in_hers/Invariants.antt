@@ -7,4 +7,4 @@ use Rattle.plain.specs.work.Steps.{HersAt}
 use Rattle.plain.proofs.groups.in_hers.Given as goal
 
 abbrev pub invariant-loop-i : goal.invariant-loop-i
-invariant-loop-i l = (j : ℕ) → 0 ≤ j → j < l.i → HersAt l.block l.user l.limit j × Chain (Member l.block) l.limit l.object (id l.block j) → ⊥
+invariant-loop-i l = (j : ℕ) → 0 ≤ j → j < l.i → HersAt l.block.bytes.now l.user l.limit j × Chain (Member l.block.bytes.now) l.limit l.object (id l.block.bytes.now j) → ⊥

@@ -2,6 +2,7 @@
 use native.Mathlib.Omega.{arith}
 use Rattle.rights.specs.Groups.{InNoGroup}
 use Rattle.plain.proofs.laws.Holding.{named_where}
+use Rattle.index.proofs.laws.block.Known.{good_known}
 use Rattle.plain.proofs.groups.in_no_group.Goals as goal
 
 pub returns-then-leads : goal.returns-then-leads
@@ -11,5 +12,5 @@ returns-then-leads c = λ alone. alone _ c.if-leads.ensures.1
 pub returns : goal.returns
 unfolding InNoGroup
 returns c = λ y m.
-    let w = named_where c.requires _ y m in
+    let w = named_where (good_known _ c.args.block.good) _ y m in
     c.loop-i.invariant w.0 (omega arith) (omega arith) (w.2.1, w.2.2)

@@ -6,4 +6,4 @@ use Rattle.rights.specs.Groups.{Member}
 use Rattle.plain.proofs.groups.in_no_group.Given as goal
 
 abbrev pub invariant-loop-i : goal.invariant-loop-i
-invariant-loop-i l = (j : ℕ) → 0 ≤ j → j < l.i → (key l.block j ≡ l.object) × Member l.block l.object (id l.block j) → ⊥
+invariant-loop-i l = (j : ℕ) → 0 ≤ j → j < l.i → (key l.block.bytes.now j ≡ l.object) × Member l.block.bytes.now l.object (id l.block.bytes.now j) → ⊥

@@ -4,4 +4,4 @@ use Rattle.plain.specs.work.Steps.{HersAt}
 use Rattle.plain.proofs.groups.is_bound.Given as goal
 
 abbrev pub invariant-loop-i : goal.invariant-loop-i
-invariant-loop-i l = (j : ℕ) → 0 ≤ j → j < l.i → HersAt l.block l.user l.limit j → ⊥
+invariant-loop-i l = (j : ℕ) → 0 ≤ j → j < l.i → HersAt l.block.bytes.now l.user l.limit j → ⊥

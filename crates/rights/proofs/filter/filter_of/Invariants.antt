@@ -6,4 +6,4 @@ use Rattle.rights.proofs.laws.held.Sifting.{Sifted}
 use Rattle.rights.proofs.filter.filter_of.Given as goal
 
 abbrev pub invariant-loop-i : goal.invariant-loop-i
-invariant-loop-i l = Sifted l.block Membership l.object (LetsBy l.block) (Lets l.block l.object) l.initial.i l.i l.left
+invariant-loop-i l = Sifted l.source.block.bytes.now Membership l.object (LetsBy l.source.block.bytes.now) (Lets l.source.block.bytes.now l.object) l.initial.i l.i l.left

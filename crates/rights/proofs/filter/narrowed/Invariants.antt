@@ -1,5 +1,4 @@
 -- `filter::narrowed` meets its contract. The loop's invariant: the mask, narrowed by the F records of the name before i.
-use Prim.Native.Nat.{◌-◌}
 use Rattle.index.specs.declared.Kind.TheVariants.{Filter}
 use Rattle.index.specs.Letters.{In}
 use Rattle.index.specs.Block.{NetAt}
@@ -7,7 +6,4 @@ use Rattle.rights.proofs.laws.held.Sifting.{Sifted}
 use Rattle.rights.proofs.filter.narrowed.Given as goal
 
 abbrev pub invariant-loop-i : goal.invariant-loop-i
-invariant-loop-i l = Sifted l.block Filter l.name (NetAt l.block) (λ k. In k l.mask) l.initial.i l.i l.left
-
-abbrev pub decreases-loop-i : goal.decreases-loop-i
-decreases-loop-i l = l.records.end - l.i
+invariant-loop-i l = Sifted l.source.block.bytes.now Filter l.name (NetAt l.source.block.bytes.now) (λ k. In k l.mask) l.initial.i l.i l.left

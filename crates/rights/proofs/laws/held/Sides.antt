@@ -1,7 +1,7 @@
 -- The two sides of a question, and what the P records grant and bar between them.
 use Prim.Native.Nat.{ℕ, suc, ◌+◌, ◌<◌}
 use mathlib.Core.Path.{◌≡◌, refl, subst}
-use mathlib.Core.List.{List}
+use mathlib.Core.List.{List, [], ◌∷◌}
 use mathlib.Core.Logic.{◌⊎◌, ◌↔◌, inl, inr, ⊎_elim}
 use native.Mathlib.Omega.{arith}
 use native.Mathlib.Decide.{ℕ_discrete}
@@ -44,11 +44,10 @@ walked_count {b} carry {n} {t} {ms} start h w e =
     record { sum = sum; few = examined_few b start sum }
 
 -- At the start one mark has grown, and the list has its name.
-pub start_front : (names : List ℕ) (start : ℕ) → 0 < length names → IsName start → Front clear (first start) (set names 0 start) 1
-start_front names start room h =
+pub start_front : (start : ℕ) → IsName start → Front clear (first start) (start ∷ [])
+start_front start h =
     let none = blank name_count start in
-    front_push (front_none clear names) start all_rights (omega (arith, length-replicate {A = ℕ} name_count 0)) (omega arith) room refl
-    (λ e. omega arith)
+    front_push (front_none clear) start all_rights (omega (arith, length-replicate {A = ℕ} name_count 0)) (omega arith) refl (λ e. omega arith)
 
 -- Cleared marks bring nothing.
 pub start_settled : (b : List ℕ) (carry : Carry) (start : ℕ) → Settled b carry clear (first start)

@@ -1,21 +1,21 @@
 -- What the filters and exclusive groups let through: one answer, and what it says to the calls that ask it first.
 use Prim.Native.Nat.{ℕ}
 use mathlib.Core.Path.{◌≡◌, refl, sym, ◌∙◌}
-use mathlib.Core.List.{List, [], ◌∷◌, ◌++◌}
-use mathlib.Core.Logic.{inl, inr}
+use mathlib.Core.List.{List, ◌++◌}
 use native.Mathlib.Omega.{arith}
+use Rattle.std.specs.Prelude.{Ok, Err}
+use Rattle.index.specs.declared.refusals.Refusal.{Refusal}
 use Rattle.index.specs.Letters.{In, Mask}
-use Rattle.index.specs.Numbers.{First, Answers}
+use Rattle.index.specs.Numbers.{First, Answers, number}
 use Rattle.index.specs.Block.{Sized, Good, IsName}
 use Rattle.index.specs.Calls.{block_needs}
 use Rattle.index.proofs.laws.Firsts.{All, passed, refuses, first_passed, first_refused, first_all, refused_first}
+use Rattle.index.proofs.laws.Refusing.{above, some}
 use Rattle.index.proofs.laws.OneFirst.{one_first}
 use Rattle.index.proofs.laws.block.Masks.{mask_map, mask_one}
-use Rattle.rights.specs.declared.Given.TheVariants as goal
 use Rattle.rights.specs.Groups.{Open}
 use Rattle.rights.specs.Held.{Passes, chain_limit}
 use Rattle.rights.specs.Through.{through_needs, Lets, LetsThrough, ThroughAnswers}
-use Rattle.rights.proofs.laws.questions.Requiring.{positive}
 
 -- All that such a call needs.
 pub record Named (b : List ℕ) (u o : ℕ) : Type 0 where
@@ -38,25 +38,16 @@ module _ (b : List ℕ) (u o : ℕ) where
 
   -- ---- for the code
 
-  pub block_refused : (n : ℕ) → (n ≡ 0 → ⊥) → Answers (block_needs b) n → ThroughAnswers b u o (goal.Refused n)
-  unfolding ThroughAnswers LetsThrough through_needs
-  block_refused n some a =
-      (positive n some, refused_first refusal (block_needs b) ((4, IsName u × IsName o) ∷ []) (Lets b u o) n (positive n some) a)
-
-  pub name_refused : Sized b → Good b → (IsName u × IsName o → ⊥) → ThroughAnswers b u o (goal.Refused 4)
-  unfolding ThroughAnswers LetsThrough through_needs block_needs
-  name_refused sized good none = (omega arith, inr (sized, inr (good, inl (none, refl))))
-
-  pub names_passed : {n : ℕ} → n ≡ 0 → Answers (through_needs b u o) n → Named b u o
+  pub names_passed : Answers (through_needs b u o) 0 → Named b u o
   unfolding through_needs block_needs
-  names_passed e a = named_all (passed (through_needs b u o) (omega arith) e a)
+  names_passed a = named_all (passed (through_needs b u o) (omega arith) refl a)
 
-  pub refused : (n : ℕ) → (n ≡ 0 → ⊥) → Answers (through_needs b u o) n → ThroughAnswers b u o (goal.Refused n)
-  unfolding ThroughAnswers LetsThrough
-  refused n some a = (positive n some, refuses refusal (Lets b u o) (through_needs b u o) some a)
+  pub refused : (e : Refusal) → Answers (through_needs b u o) (number e) → LetsThrough b u o (number e, 0)
+  unfolding LetsThrough
+  refused e a = refuses refusal (Lets b u o) (through_needs b u o) (some e) a
 
-  pub lets : Named b u o → {p r : ℕ} → Mask p (Passes b o) → Mask r (λ k. Open chain_limit b u o × In k p) → ThroughAnswers b u o (goal.Mask r)
-  unfolding ThroughAnswers LetsThrough
+  pub lets : Named b u o → {p r : ℕ} → Mask p (Passes b o) → Mask r (λ k. Open chain_limit b u o × In k p) → LetsThrough b u o (0, r)
+  unfolding LetsThrough
   lets h {p} {r} passed opened =
       first_all refusal (Lets b u o) (0, r) (through_needs b u o) (all_named h)
       (refl, mask_map opened _ (λ k l. ((λ q. ((passed.1 k l).0 q.1, q.0)), (λ q. (q.1, (passed.1 k l).1 q.0)))))
@@ -74,7 +65,7 @@ module _ (b : List ℕ) (u o : ℕ) where
 
   -- ---- for the calls that ask it first
 
-  pub through_named : {m : ℕ} → ThroughAnswers b u o (goal.Mask m)
+  pub through_named : {m : ℕ} → ThroughAnswers b u o (Ok m)
       → Named b u o × Mask m (λ k. Passes b o k × Open chain_limit b u o)
   unfolding ThroughAnswers LetsThrough through_needs block_needs
   through_named {m} t =
@@ -82,9 +73,9 @@ module _ (b : List ℕ) (u o : ℕ) where
       (named_all r.0, r.1.1)
 
   -- A refusal refuses every call that has more requirements behind these.
-  pub through_refused : {O : Type 0} (refused : ℕ → O) (more : List (ℕ × Type 0)) (accepted : O → Type 0) (n : ℕ)
-      → ThroughAnswers b u o (goal.Refused n) → First refused (through_needs b u o ++ more) accepted (refused n)
+  pub through_refused : {O : Type 0} (refused : ℕ → O) (more : List (ℕ × Type 0)) (accepted : O → Type 0) (e : Refusal)
+      → ThroughAnswers b u o (Err e) → First refused (through_needs b u o ++ more) accepted (refused (number e))
   unfolding ThroughAnswers LetsThrough
-  through_refused refused more accepted n t =
-      refused_first refused (through_needs b u o) more accepted n t.0
-      (first_refused refusal (Lets b u o) (n, 0) (λ a. a.0) (λ n. refl) (through_needs b u o) (λ l. l.0) (λ e. omega (arith, t.0)) t.1).0
+  through_refused refused more accepted e t =
+      refused_first refused (through_needs b u o) more accepted (number e) (above e)
+      (first_refused refusal (Lets b u o) (number e, 0) (λ a. a.0) (λ n. refl) (through_needs b u o) (λ l. l.0) (some e) t).0

@@ -1,43 +1,26 @@
 -- M-111: the rights held to a limit. No second answer; the same whatever else is required, where it holds; and at 32 those of the full question.
-use Prim.Native.Nat.{ℕ, suc, ◌≤◌}
+use Prim.Native.Nat.{ℕ, ◌≤◌}
 use mathlib.Core.Path.{◌≡◌, refl, sym, ap, ◌∙◌}
 use mathlib.Core.List.{List, [], ◌∷◌, ◌++◌}
 use mathlib.Core.Logic.{inl, ⊎_elim}
 use native.Mathlib.Omega.{arith}
+use Rattle.std.specs.Prelude.{Result}
+use Rattle.index.specs.declared.refusals.Refusal.{Refusal}
 use Rattle.index.specs.Numbers.{First}
 use Rattle.index.specs.Calls.{block_needs}
 use Rattle.index.proofs.laws.Firsts.{All, first_passed, with_last, without_last}
 use Rattle.index.proofs.laws.OneFirst.{one_first}
 use Rattle.index.proofs.laws.block.Masks.{mask_one}
-use Rattle.rights.specs.declared.Given.{Given}
-use Rattle.rights.specs.declared.Given.TheVariants as goal
 use Rattle.rights.specs.declared.Profile.TheVariants.{Ordinary}
 use Rattle.rights.specs.Held.{chain_limit}
 use Rattle.rights.specs.HeldTo.{limit_needs, HeldWithin, HeldTo, AsksTo}
 use Rattle.rights.specs.Profiles.{ordinary, IsProfile, profile_of}
-use Rattle.rights.specs.Questions.{ask_needs, profile_needs, question_needs, Limited, Reports, unreported, Full, GivenMeans}
+use Rattle.rights.specs.Questions.{ask_needs, profile_needs, question_needs, Limited, Reports, unreported, Full}
+use Rattle.rights.proofs.laws.questions.OneAnswer.{given_same}
 use Rattle.rights.proofs.laws.questions.ShortAgrees.{first_both}
 
 abbrev refusal : ℕ → ℕ × ℕ
 refusal n = (n, 0)
-
--- ---- the answers of the code that are a mask or a refusal
-
-abbrev given_of : ℕ × ℕ → Given
-given_of (ℕ.zero, m) = goal.Mask m
-given_of (suc n, m) = goal.Refused (suc n)
-
-given_back : (Outcome : ℕ × ℕ → Type 0) (r : Given) → GivenMeans Outcome r → (a : ℕ × ℕ) × Outcome a × (given_of a ≡ r)
-given_back Outcome (goal.Mask m) p = ((0, m), p, refl)
-given_back Outcome (goal.Refused ℕ.zero) p = absurd (omega (arith, p.0))
-given_back Outcome (goal.Refused (suc n)) p = ((suc n, 0), p.1, refl)
-
--- Two calls whose outcomes are the same give the same answer.
-pub given_same : (P Q : ℕ × ℕ → Type 0) → ((a c : ℕ × ℕ) → P a → Q c → a ≡ c) → (r s : Given) → GivenMeans P r → GivenMeans Q s → r ≡ s
-given_same P Q same r s p q =
-    let x = given_back P r p in
-    let y = given_back Q s q in
-    sym x.2 ∙ ap given_of (same x.0 y.0 x.1 y.1) ∙ y.2
 
 module _ (b : List ℕ) (u o request limit : ℕ) where
   one_held : (a c : ℕ × ℕ) → HeldWithin limit b u o request a → HeldWithin limit b u o request c → a ≡ c
@@ -76,7 +59,7 @@ module _ (b : List ℕ) (u o request limit : ℕ) where
   unfolding HeldTo
   one_held_to = one_within (limit ≤ chain_limit)
 
-  pub one_asks_to : (r s : Given) → AsksTo b u o request limit r → AsksTo b u o request limit s → r ≡ s
+  pub one_asks_to : (r s : Result ℕ Refusal) → AsksTo b u o request limit r → AsksTo b u o request limit s → r ≡ s
   unfolding AsksTo
   one_asks_to = given_same (HeldTo b u o request limit) (HeldTo b u o request limit) one_held_to
 

@@ -1,19 +1,22 @@
 -- No second answer to a question satisfies the same promise; and what an accepted full one says.
 use Prim.Native.Nat.{ℕ, suc, ◌<◌}
-use mathlib.Core.Path.{◌≡◌, refl, sym, ap, ◌∙◌}
+use mathlib.Core.Path.{◌≡◌, refl, sym, ◌∙◌}
+use mathlib.Core.Bool.{Bool, true, false}
 use mathlib.Core.List.{List}
 use mathlib.Core.Logic.{◌⊎◌, ◌↔◌, inl, inr, ⊎_elim}
 use native.Mathlib.Omega.{arith}
+use Rattle.std.specs.Prelude.{Result}
+use Rattle.index.specs.declared.refusals.Refusal.{Refusal}
+use Rattle.index.specs.Numbers.{yes_no}
+use Rattle.index.specs.work.Checks.{Says}
 use Rattle.index.specs.Calls.{block_needs}
 use Rattle.index.proofs.laws.Firsts.{All, first_passed}
 use Rattle.index.proofs.laws.block.Masks.{mask_one}
 use Rattle.index.proofs.laws.OneFirst.{one_first}
-use Rattle.rights.specs.declared.Rights.{Rights}
-use Rattle.rights.specs.declared.Rights.TheVariants as rights
-use Rattle.rights.specs.declared.Answer.{Answer}
-use Rattle.rights.specs.declared.Answer.TheVariants as answer
+use Rattle.index.proofs.laws.OneResult.{means_same, one_yes_no}
+use Rattle.rights.specs.declared.grants.Reach.{Reach}
 use Rattle.rights.specs.Profiles.{profile_of}
-use Rattle.rights.specs.Questions.{question_needs, Limited, Reports, HoldsAll, YesWhen, Answered, unreported, Full, Short, RightsMean, AnswerMeans, Asks, AsksAll}
+use Rattle.rights.specs.Questions.{question_needs, Limited, Reports, HoldsAll, YesWhen, Answered, unreported, Full, Short, reach_value, RightsMean, AnswerMeans, GivenMeans, Asks, AsksAll}
 use Rattle.rights.proofs.laws.examined.ExaminedOnce.{examined_once}
 
 one_bit : {H : Type 0} (m n : ℕ) → m < 2 → n < 2 → (m ≡ 1) ↔ H → (n ≡ 1) ↔ H → m ≡ n
@@ -26,22 +29,17 @@ one_bit m n hm hn p q =
     bit (suc ℕ.zero) h = inr (omega arith)
     bit (suc (suc k)) h = absurd (omega arith)
 
--- A yes or no.
+-- A yes or no that is right.
+pub said_yes : (P : Type 0) (t : Bool) → Says P t → YesWhen P (0, yes_no t)
+said_yes P true p = (refl, omega arith, ((λ e. p), (λ q. refl)))
+said_yes P false none = (refl, omega arith, ((λ e. absurd (omega arith)), (λ p. absurd (none p))))
+
+-- Two of them.
 pub one_yes : (P : Type 0) (a c : ℕ × ℕ) → YesWhen P a → YesWhen P c → a ≡ c
 one_yes P a c p q =
     let n : a.0 ≡ c.0 = p.0 ∙ sym q.0 in
     let m : a.1 ≡ c.1 = one_bit a.1 c.1 p.1 q.1 p.2 q.2 in
     λ i. (n i, m i)
-
--- The answer that a number and its values stand for.
-abbrev rights_of : ℕ × ℕ × ℕ × ℕ → Rights
-rights_of (ℕ.zero, m, i, j) = rights.Held m i j
-rights_of (suc n, m, i, j) = rights.Refused (suc n)
-
-abbrev answer_of : ℕ × ℕ → Answer
-answer_of (ℕ.zero, ℕ.zero) = answer.No
-answer_of (ℕ.zero, suc m) = answer.Yes
-answer_of (suc n, m) = answer.Refused (suc n)
 
 module _ (b : List ℕ) (u o request profile : ℕ) where
   pub one_full : (a c : ℕ × ℕ × ℕ × ℕ) → Full b u o request profile a → Full b u o request profile c → a ≡ c
@@ -63,46 +61,37 @@ module _ (b : List ℕ) (u o request profile : ℕ) where
 
 -- ---- the same for the answers of the code, of any question with one outcome
 
--- An answer is given back by its number and values.
-rights_back : (Outcome : ℕ × ℕ × ℕ × ℕ → Type 0) (r : Rights) → RightsMean Outcome r → (a : ℕ × ℕ × ℕ × ℕ) × Outcome a × (rights_of a ≡ r)
-rights_back Outcome (rights.Held m i j) p = ((0, m, i, j), p, refl)
-rights_back Outcome (rights.Refused ℕ.zero) p = absurd (omega (arith, p.0))
-rights_back Outcome (rights.Refused (suc n)) p = (unreported (suc n), p.1, refl)
-
-answer_back : (Outcome : ℕ × ℕ → Type 0) (r : Answer) → AnswerMeans Outcome r → (a : ℕ × ℕ) × Outcome a × (answer_of a ≡ r)
-answer_back Outcome answer.Yes p = ((0, 1), p, refl)
-answer_back Outcome answer.No p = ((0, 0), p, refl)
-answer_back Outcome (answer.Refused ℕ.zero) p = absurd (omega (arith, p.0))
-answer_back Outcome (answer.Refused (suc n)) p = ((suc n, 0), p.1, refl)
+one_reach : (a b : Reach) → reach_value a ≡ reach_value b → a ≡ b
+one_reach a b e = λ i. record { rights = (e i).0; user = (e i).1; object = (e i).2 }
 
 -- Where every two outcomes of P and of Q are the same, so are the answers.
-pub rights_same : (P Q : ℕ × ℕ × ℕ × ℕ → Type 0) → ((a c : ℕ × ℕ × ℕ × ℕ) → P a → Q c → a ≡ c) → (r s : Rights) → RightsMean P r → RightsMean Q s
+pub rights_same : (P Q : ℕ × ℕ × ℕ × ℕ → Type 0) → ((a c : ℕ × ℕ × ℕ × ℕ) → P a → Q c → a ≡ c) → (r s : Result Reach Refusal) → RightsMean P r
+    → RightsMean Q s → r ≡ s
+rights_same P Q same =
+    means_same reach_value (0, 0, 0) one_reach (λ o. P (o.0, o.1.0, o.1.1, o.1.2)) (λ o. Q (o.0, o.1.0, o.1.1, o.1.2))
+    (λ o o' p q. let e = same _ _ p q in λ i. ((e i).0, ((e i).1, (e i).2, (e i).3)))
+
+pub answer_same : (P Q : ℕ × ℕ → Type 0) → ((a c : ℕ × ℕ) → P a → Q c → a ≡ c) → (r s : Result Bool Refusal) → AnswerMeans P r → AnswerMeans Q s
     → r ≡ s
-rights_same P Q same r s p q =
-    let x = rights_back P r p in
-    let y = rights_back Q s q in
-    sym x.2 ∙ ap rights_of (same x.0 y.0 x.1 y.1) ∙ y.2
+answer_same = means_same yes_no 0 one_yes_no
 
-pub answer_same : (P Q : ℕ × ℕ → Type 0) → ((a c : ℕ × ℕ) → P a → Q c → a ≡ c) → (r s : Answer) → AnswerMeans P r → AnswerMeans Q s → r ≡ s
-answer_same P Q same r s p q =
-    let x = answer_back P r p in
-    let y = answer_back Q s q in
-    sym x.2 ∙ ap answer_of (same x.0 y.0 x.1 y.1) ∙ y.2
+pub given_same : (P Q : ℕ × ℕ → Type 0) → ((a c : ℕ × ℕ) → P a → Q c → a ≡ c) → (r s : Result ℕ Refusal) → GivenMeans P r → GivenMeans Q s → r ≡ s
+given_same = means_same (λ mask. mask) 0 (λ a b e. e)
 
-pub rights_once : (Outcome : ℕ × ℕ × ℕ × ℕ → Type 0) → ((a c : ℕ × ℕ × ℕ × ℕ) → Outcome a → Outcome c → a ≡ c) → (r s : Rights)
+pub rights_once : (Outcome : ℕ × ℕ × ℕ × ℕ → Type 0) → ((a c : ℕ × ℕ × ℕ × ℕ) → Outcome a → Outcome c → a ≡ c) → (r s : Result Reach Refusal)
     → RightsMean Outcome r → RightsMean Outcome s → r ≡ s
 rights_once Outcome = rights_same Outcome Outcome
 
-pub answer_once : (Outcome : ℕ × ℕ → Type 0) → ((a c : ℕ × ℕ) → Outcome a → Outcome c → a ≡ c) → (r s : Answer)
+pub answer_once : (Outcome : ℕ × ℕ → Type 0) → ((a c : ℕ × ℕ) → Outcome a → Outcome c → a ≡ c) → (r s : Result Bool Refusal)
     → AnswerMeans Outcome r → AnswerMeans Outcome s → r ≡ s
 answer_once Outcome = answer_same Outcome Outcome
 
 module _ (b : List ℕ) (u o request profile : ℕ) where
-  pub one_asks : (r s : Rights) → Asks b u o request profile r → Asks b u o request profile s → r ≡ s
+  pub one_asks : (r s : Result Reach Refusal) → Asks b u o request profile r → Asks b u o request profile s → r ≡ s
   unfolding Asks
   one_asks = rights_once (Full b u o request profile) (one_full b u o request profile)
 
-  pub one_asks_all : (r s : Answer) → AsksAll b u o request profile r → AsksAll b u o request profile s → r ≡ s
+  pub one_asks_all : (r s : Result Bool Refusal) → AsksAll b u o request profile r → AsksAll b u o request profile s → r ≡ s
   unfolding AsksAll
   one_asks_all = answer_once (Short b u o request profile) (one_short b u o request profile)
 

@@ -2,15 +2,16 @@
 use Prim.Native.Nat.{ℕ, suc, ◌^◌, ◌<◌, ◌≤◌}
 use mathlib.Core.Path.{◌≡◌, refl}
 use mathlib.Core.List.{List, [], ◌∷◌, ◌++◌}
-use mathlib.Core.Logic.{inr}
+use mathlib.Core.Logic.{inl, inr}
 use native.Mathlib.Omega.{arith}
 use Rattle.index.specs.Letters.{right_count}
 use Rattle.index.specs.Numbers.{First, Answers}
 use Rattle.index.specs.Block.{Sized, Good, IsName}
 use Rattle.index.specs.Calls.{block_needs}
-use Rattle.index.proofs.laws.Firsts.{All, passed, refuses, refused_first, passed_first}
+use Rattle.index.proofs.laws.Firsts.{All, passed, answers_next, without_last, refuses, refused_first, passed_first}
 use Rattle.index.proofs.laws.OneFirst.{one_first}
-use Rattle.rights.specs.Questions.{ask_needs, last_needs}
+use Rattle.rights.specs.Profiles.{ordinary, IsProfile}
+use Rattle.rights.specs.Questions.{ask_needs, profile_needs, last_needs}
 
 pub positive : (m : ℕ) → (m ≡ 0 → ⊥) → 0 < m
 positive ℕ.zero ne = absurd (ne refl)
@@ -27,6 +28,16 @@ pub record Asked (b : List ℕ) (u o request : ℕ) : Type 0 where
 
 abbrev pub every_needs : List ℕ → ℕ → ℕ → ℕ → List (ℕ × Type 0)
 every_needs b u o request = block_needs b ++ ask_needs u o request
+
+-- The tests of the block are passed, and others follow.
+pub after_block : (b : List ℕ) (more : List (ℕ × Type 0)) (n : ℕ) → Answers (block_needs b) 0 → Answers more n → Answers (block_needs b ++ more) n
+unfolding block_needs
+after_block b more n told a = answers_next (block_needs b) more n (passed (block_needs b) (omega arith) refl told) a
+
+-- The profile that is named in a call without one is the ordinary one.
+pub without_profile : (u o request n : ℕ) → Answers (ask_needs u o request ++ profile_needs ordinary) n → Answers (ask_needs u o request) n
+unfolding IsProfile
+without_profile u o request n = without_last (λ n. n) (ask_needs u o request) (profile_needs ordinary) (λ n. n ≡ 0) n (inl refl, tt)
 
 module _ (b : List ℕ) (u o request : ℕ) where
   all_asked : Asked b u o request → All (every_needs b u o request)

@@ -4,14 +4,16 @@ use mathlib.Core.Path.{◌≡◌, ap}
 use mathlib.Core.List.{List}
 use mathlib.Core.Logic.{◌↔◌}
 use native.Mathlib.Omega.{arith}
+use Rattle.std.specs.Prelude.{Bool, Result, Ok, Err}
+use Rattle.index.specs.declared.refusals.Refusal.{Refusal}
+use Rattle.index.specs.declared.refusals.Refusal.TheVariants.{Directory}
+use Rattle.index.specs.Numbers.{number}
+use Rattle.index.proofs.laws.Refusing.{once}
 use Rattle.directory.specs.Directory.{Own}
 use Rattle.directory.proofs.OneBy.{one_by}
 use Rattle.directory.proofs.Passing.{Tests, tests}
 use Rattle.directory.proofs.AsWithout.{as_without, own_as_without}
-use Rattle.rights.specs.declared.Rights.{Rights}
-use Rattle.rights.specs.declared.Rights.TheVariants as rights
-use Rattle.rights.specs.declared.Answer.{Answer}
-use Rattle.rights.specs.declared.Answer.TheVariants as answer
+use Rattle.rights.specs.declared.grants.Reach.{Reach}
 use Rattle.rights.specs.Questions.{question_needs, unreported, Full, Short, FullBy, ShortBy, Asks, AsksBy, AsksAll, AsksAllBy}
 use Rattle.rights.proofs.laws.questions.OneAnswer.{one_full, one_short, rights_once, answer_once, one_asks, one_asks_all}
 
@@ -36,11 +38,11 @@ module _ (b : List ℕ) (u o request profile : ℕ) where
     unfolding ShortBy
     one_short_by = one_by b d (λ n. (n, 0)) (Short b u o request profile) (one_short b u o request profile)
 
-    pub one_asks_by : (r s : Rights) → AsksBy b d u o request profile r → AsksBy b d u o request profile s → r ≡ s
+    pub one_asks_by : (r s : Result Reach Refusal) → AsksBy b d u o request profile r → AsksBy b d u o request profile s → r ≡ s
     unfolding AsksBy
     one_asks_by = rights_once (FullBy b d u o request profile) one_full_by
 
-    pub one_asks_all_by : (r s : Answer) → AsksAllBy b d u o request profile r → AsksAllBy b d u o request profile s → r ≡ s
+    pub one_asks_all_by : (r s : Result Bool Refusal) → AsksAllBy b d u o request profile r → AsksAllBy b d u o request profile s → r ≡ s
     unfolding AsksAllBy
     one_asks_all_by = answer_once (ShortBy b d u o request profile) one_short_by
 
@@ -56,33 +58,29 @@ module _ (b : List ℕ) (u o request profile : ℕ) where
 
     -- ---- on every input on which 13 is not given
 
-    pub rights_without : (r : Rights) → (r ≡ rights.Refused 13 → ⊥) → AsksBy b d u o request profile r → Asks b u o request profile r
+    pub rights_without : (r : Result Reach Refusal) → (r ≡ Err Directory → ⊥) → AsksBy b d u o request profile r → Asks b u o request profile r
     unfolding AsksBy Asks FullBy
-    rights_without (rights.Held m i j) not13 p =
-        as_without b d unreported (Full b u o request profile) full_tests (0, m, i, j)
+    rights_without (Ok reach) not13 p =
+        as_without b d unreported (Full b u o request profile) full_tests (0, reach.rights, reach.user, reach.object)
         (λ e. omega (arith, ap (λ (a : ℕ × ℕ × ℕ × ℕ). a.0) e)) p
-    rights_without (rights.Refused n) not13 p = (
-      p.0,
-      as_without b d unreported (Full b u o request profile) full_tests (unreported n)
-          (λ e. not13 (ap rights.Refused (ap (λ (a : ℕ × ℕ × ℕ × ℕ). a.0) e))) p.1,
-    )
+    rights_without (Err e) not13 p =
+        as_without b d unreported (Full b u o request profile) full_tests (unreported (number e))
+        (λ q. not13 (ap Err (once e Directory (ap (λ (a : ℕ × ℕ × ℕ × ℕ). a.0) q)))) p
 
     -- `rights_by` answers what `rights_of` answers, the numbers of records examined among it.
-    pub same_rights : (r r' : Rights) → (r ≡ rights.Refused 13 → ⊥) → AsksBy b d u o request profile r → Asks b u o request profile r' → r ≡ r'
+    pub same_rights : (r r' : Result Reach Refusal) → (r ≡ Err Directory → ⊥) → AsksBy b d u o request profile r → Asks b u o request profile r'
+        → r ≡ r'
     same_rights r r' not13 p q = one_asks b u o request profile r r' (rights_without r not13 p) q
 
-    may_without : (r : Answer) → (r ≡ answer.Refused 13 → ⊥) → AsksAllBy b d u o request profile r → AsksAll b u o request profile r
+    may_without : (r : Result Bool Refusal) → (r ≡ Err Directory → ⊥) → AsksAllBy b d u o request profile r → AsksAll b u o request profile r
     unfolding AsksAllBy AsksAll ShortBy
-    may_without answer.Yes not13 p =
-        as_without b d (λ n. (n, 0)) (Short b u o request profile) short_tests (0, 1) (λ e. omega (arith, ap (λ (a : ℕ × ℕ). a.0) e)) p
-    may_without answer.No not13 p =
-        as_without b d (λ n. (n, 0)) (Short b u o request profile) short_tests (0, 0) (λ e. omega (arith, ap (λ (a : ℕ × ℕ). a.0) e)) p
-    may_without (answer.Refused n) not13 p = (
-      p.0,
-      as_without b d (λ n. (n, 0)) (Short b u o request profile) short_tests (n, 0) (λ e. not13 (ap answer.Refused (ap (λ (a : ℕ × ℕ). a.0) e)))
-          p.1,
-    )
+    may_without (Ok t) not13 p =
+        as_without b d (λ n. (n, 0)) (Short b u o request profile) short_tests _ (λ e. omega (arith, ap (λ (a : ℕ × ℕ). a.0) e)) p
+    may_without (Err e) not13 p =
+        as_without b d (λ n. (n, 0)) (Short b u o request profile) short_tests (number e, 0)
+        (λ q. not13 (ap Err (once e Directory (ap (λ (a : ℕ × ℕ). a.0) q)))) p
 
     -- `may_by` answers what `may` answers.
-    pub same_may : (r r' : Answer) → (r ≡ answer.Refused 13 → ⊥) → AsksAllBy b d u o request profile r → AsksAll b u o request profile r' → r ≡ r'
+    pub same_may : (r r' : Result Bool Refusal) → (r ≡ Err Directory → ⊥) → AsksAllBy b d u o request profile r → AsksAll b u o request profile r'
+        → r ≡ r'
     same_may r r' not13 p q = one_asks_all b u o request profile r r' (may_without r not13 p) q

@@ -4,15 +4,15 @@ use mathlib.Core.Path.{◌≡◌, refl, sym, ap, ◌∙◌}
 use mathlib.Core.List.{List, [], ◌∷◌}
 use mathlib.Core.Logic.{◌⊎◌, ◌↔◌, inl, inr, ⊎_elim}
 use native.Mathlib.Omega.{arith}
+use Rattle.std.specs.Prelude.{Bool, true, false, Result, Ok, Err}
+use Rattle.index.specs.declared.refusals.Refusal.{Refusal}
 use Rattle.index.specs.Letters.{right_count, all_rights, In}
 use Rattle.index.specs.Numbers.{First}
 use Rattle.index.specs.Calls.{block_needs}
 use Rattle.index.proofs.laws.Firsts.{Positive, All, first_all}
+use Rattle.index.proofs.laws.Refusing.{above, once}
 use Rattle.directory.specs.By.{By, directory_needs}
-use Rattle.rights.specs.declared.Rights.{Rights}
-use Rattle.rights.specs.declared.Rights.TheVariants as rights
-use Rattle.rights.specs.declared.Answer.{Answer}
-use Rattle.rights.specs.declared.Answer.TheVariants as answer
+use Rattle.rights.specs.declared.grants.Reach.{Reach}
 use Rattle.rights.specs.Profiles.{profile_of}
 use Rattle.rights.specs.Questions.{question_needs, Limited, HoldsAll, Reports, Answered, unreported, Full, Short, FullBy, ShortBy, RightsMean, AnswerMeans, Asks, AsksAll, AsksBy, AsksAllBy}
 use Rattle.rights.proofs.laws.questions.OneAnswer.{accepted_full}
@@ -21,14 +21,13 @@ use Rattle.rights.proofs.laws.questions.OneAnswer.{accepted_full}
 abbrev pub Covers : ℕ → ℕ → Type 0
 Covers mask request = (k : ℕ) → k < right_count → In k request → In k mask
 
--- Yes exactly where the full answer has every requested right, and refusals with the same number.
-abbrev pub AnswersAgree : ℕ → Rights → Answer → Type 0
-AnswersAgree request (rights.Held m i j) answer.Yes = Covers m request
-AnswersAgree request (rights.Held m i j) answer.No = Covers m request → ⊥
-AnswersAgree request (rights.Held m i j) (answer.Refused n) = ⊥
-AnswersAgree request (rights.Refused n) answer.Yes = ⊥
-AnswersAgree request (rights.Refused n) answer.No = ⊥
-AnswersAgree request (rights.Refused n) (answer.Refused m) = n ≡ m
+-- Yes exactly where the full answer has every requested right, and the same refusals.
+abbrev pub AnswersAgree : ℕ → Result Reach Refusal → Result Bool Refusal → Type 0
+AnswersAgree request (Ok reach) (Ok true) = Covers reach.rights request
+AnswersAgree request (Ok reach) (Ok false) = Covers reach.rights request → ⊥
+AnswersAgree request (Ok reach) (Err e) = ⊥
+AnswersAgree request (Err e) (Ok t) = ⊥
+AnswersAgree request (Err e) (Err f) = e ≡ f
 
 -- Two calls with the same requirements are refused with the same number, or both accepted.
 pub first_both : {O P : Type 0} (f : ℕ → O) (g : ℕ → P) (ts : List (ℕ × Type 0)) (A : O → Type 0) (B : P → Type 0) (a : O) (b : P)
@@ -47,24 +46,22 @@ Both request a c =
 fst : {a c : ℕ × ℕ} → a ≡ c → a.0 ≡ c.0
 fst e = ap (λ (p : ℕ × ℕ). p.0) e
 
-number : {a c : ℕ × ℕ × ℕ × ℕ} → a ≡ c → a.0 ≡ c.0
-number e = ap (λ (p : ℕ × ℕ × ℕ × ℕ). p.0) e
+first : {a c : ℕ × ℕ × ℕ × ℕ} → a ≡ c → a.0 ≡ c.0
+first e = ap (λ (p : ℕ × ℕ × ℕ × ℕ). p.0) e
 
 -- Where they are so, the answers of the code agree.
 agree : (request : ℕ) (P : ℕ × ℕ × ℕ × ℕ → Type 0) (Q : ℕ × ℕ → Type 0) → ((a : ℕ × ℕ × ℕ × ℕ) (c : ℕ × ℕ) → P a → Q c → Both request a c)
-    → (r : Rights) (a : Answer) → RightsMean P r → AnswerMeans Q a → AnswersAgree request r a
-agree request P Q both (rights.Held m i j) answer.Yes p q =
-    ⊎_elim (λ r. absurd (omega (arith, r.1, number r.2))) (λ r. r.2.0 (omega arith)) (both (0, m, i, j) (0, 1) p q)
-agree request P Q both (rights.Held m i j) answer.No p q =
-    ⊎_elim (λ r. absurd (omega (arith, r.1, number r.2))) (λ r all. omega (arith, r.2.1 all)) (both (0, m, i, j) (0, 0) p q)
-agree request P Q both (rights.Held m i j) (answer.Refused n) p q =
-    ⊎_elim (λ r. omega (arith, r.1, number r.2)) (λ r. omega (arith, r.1, q.0)) (both (0, m, i, j) (n, 0) p q.1)
-agree request P Q both (rights.Refused n) answer.Yes p q =
-    ⊎_elim (λ r. omega (arith, r.1, fst r.3)) (λ r. omega (arith, r.0, p.0)) (both (unreported n) (0, 1) p.1 q)
-agree request P Q both (rights.Refused n) answer.No p q =
-    ⊎_elim (λ r. omega (arith, r.1, fst r.3)) (λ r. omega (arith, r.0, p.0)) (both (unreported n) (0, 0) p.1 q)
-agree request P Q both (rights.Refused n) (answer.Refused m) p q =
-    ⊎_elim (λ r. number r.2 ∙ sym (fst r.3)) (λ r. absurd (omega (arith, r.0, p.0))) (both (unreported n) (m, 0) p.1 q.1)
+    → (r : Result Reach Refusal) (a : Result Bool Refusal) → RightsMean P r → AnswerMeans Q a → AnswersAgree request r a
+agree request P Q both (Ok reach) (Ok true) p q =
+    ⊎_elim (λ r. absurd (omega (arith, r.1, first r.2))) (λ r. r.2.0 (omega arith)) (both _ _ p q)
+agree request P Q both (Ok reach) (Ok false) p q =
+    ⊎_elim (λ r. absurd (omega (arith, r.1, first r.2))) (λ r all. omega (arith, r.2.1 all)) (both _ _ p q)
+agree request P Q both (Ok reach) (Err e) p q =
+    ⊎_elim (λ r. omega (arith, r.1, first r.2)) (λ r. omega (arith, r.1, above e)) (both _ _ p q)
+agree request P Q both (Err e) (Ok t) p q =
+    ⊎_elim (λ r. omega (arith, r.1, fst r.3)) (λ r. omega (arith, r.0, above e)) (both _ _ p q)
+agree request P Q both (Err e) (Err f) p q =
+    ⊎_elim (λ r. once e f (first r.2 ∙ sym (fst r.3))) (λ r. absurd (omega (arith, r.0, above e))) (both _ _ p q)
 
 module _ (b : List ℕ) (u o request profile : ℕ) where
   both : (a : ℕ × ℕ × ℕ × ℕ) (c : ℕ × ℕ) → Full b u o request profile a → Short b u o request profile c → Both request a c
@@ -85,7 +82,7 @@ module _ (b : List ℕ) (u o request profile : ℕ) where
       (first_both unreported (λ n. (n, 0)) (question_needs b u o request profile) (Reports (profile_of profile) b u o request)
       (Answered (profile_of profile) b u o request) a c (omega arith) p q)
 
-  pub short_agrees : (r : Rights) (a : Answer) → Asks b u o request profile r → AsksAll b u o request profile a → AnswersAgree request r a
+  pub short_agrees : (r : Result Reach Refusal) (a : Result Bool Refusal) → Asks b u o request profile r → AsksAll b u o request profile a → AnswersAgree request r a
   unfolding Asks AsksAll
   short_agrees = agree request (Full b u o request profile) (Short b u o request profile) both
 
@@ -97,7 +94,7 @@ module _ (b : List ℕ) (u o request profile : ℕ) where
         ⊎_elim (λ r. inl r) (λ r. both a c r.0 r.1)
         (first_both unreported (λ n. (n, 0)) (directory_needs b d) (Full b u o request profile) (Short b u o request profile) a c (omega arith) p q)
 
-    pub short_agrees_by : (r : Rights) (a : Answer) → AsksBy b d u o request profile r → AsksAllBy b d u o request profile a
+    pub short_agrees_by : (r : Result Reach Refusal) (a : Result Bool Refusal) → AsksBy b d u o request profile r → AsksAllBy b d u o request profile a
         → AnswersAgree request r a
     unfolding AsksBy AsksAllBy
     short_agrees_by = agree request (FullBy b d u o request profile) (ShortBy b d u o request profile) both_by

@@ -155,10 +155,10 @@ pub settled_next : (b : List ℕ) (carry : Carry) (ms ms₁ : List ℕ) → Roun
 unfolding Round Settled
 settled_next b carry ms ms₁ r k z h s = ((r z).1 k h).1 s
 
-module _ (b : List ℕ) (carry : Carry) {old ms names : List ℕ} {len : ℕ} (front : Front old ms names len)
+module _ (b : List ℕ) (carry : Carry) {old ms names : List ℕ} (front : Front old ms names)
     (settled : Settled b carry old ms) where
   -- The records of the other names bring nothing new.
-  pub front_round : Good b → (ms₁ : List ℕ) → Spread b carry ms (Through b names len) ms₁ → Round b carry ms ms₁
+  pub front_round : Good b → (ms₁ : List ℕ) → Spread b carry ms (Through b names (length names)) ms₁ → Round b carry ms ms₁
   unfolding Round Settled
   front_round g ms₁ inv z =
       mask_map (inv z) (λ k. Brings b carry ms k z)
@@ -171,7 +171,7 @@ module _ (b : List ℕ) (carry : Carry) {old ms names : List ℕ} {len : ℕ} (f
       ))
     where
       any : (k : ℕ) → k < right_count → (x : ℕ) → Marked ms k x → Carried b carry k x z → Dec (get_or old x 0 ≡ get_or ms x 0)
-          → Marked ms k z ⊎ Brought b carry ms (Through b names len) k z
+          → Marked ms k z ⊎ Brought b carry ms (Through b names (length names)) k z
       any k h x m c (yes e) = inl (settled k z h (inr (x, rw e m, c)))
       any k h x m c (no ne) =
           let w = carried_where g carry k x z c in
@@ -186,11 +186,11 @@ module _ (b : List ℕ) (carry : Carry) {old ms names : List ℕ} {len : ℕ} (f
           )
 
   -- They are the records that a round examines.
-  pub front_read : {c : ℕ} → HowMany (Through b names len) (size b Membership) c → Read b old ms c
+  pub front_read : {c : ℕ} → HowMany (Through b names (length names)) (size b Membership) c → Read b old ms c
   front_read = count_map (λ i l. front.listed (key b i))
 
   -- Where no mark grew, a round changes nothing.
-  pub still_round : len ≡ 0 → Marks ms → Round b carry ms ms
+  pub still_round : length names ≡ 0 → Marks ms → Round b carry ms ms
   unfolding Round Settled
   still_round none marks z =
       mask_map (mask_self (get_or ms z 0) (marks.small z)) (λ k. Brings b carry ms k z)

@@ -6,7 +6,7 @@ use mathlib.Core.Logic.{inl, inr, ⊎_elim}
 use native.Mathlib.Omega.{arith}
 use native.Mathlib.Nat.{eq-or-lt_of_le}
 use native.Mathlib.Decide.{ℕ_discrete}
-use lib.ListN.{get_or, set, length-set, replicate, get_or-replicate, length-replicate}
+use lib.ListN.{length, get_or, set, length-set, replicate, get_or-replicate, length-replicate}
 use lib.Seq.{get_or-set_same, get_or-set_other}
 use Rattle.index.specs.declared.Kind.TheVariants.{Membership}
 use Rattle.index.specs.Block.{name_count, IsName}
@@ -20,10 +20,10 @@ firsts_none b = record {
   each = λ z h. inl (rw (get_or-replicate {A = ℕ} name_count z 65535 0 h) refl);
 }
 
-module _ {b names firsts : List ℕ} {n : ℕ} (named : Named names n) (all : Firsts b firsts) where
-  pub turn_of : (j : ℕ) → j < n → StartsAt b Membership (get_or names j 0) (get_or firsts (get_or names j 0) 0) → Turn b names firsts j
+module _ {b names firsts : List ℕ} (named : Named names) (all : Firsts b firsts) where
+  pub turn_of : (j : ℕ) → j < length names → StartsAt b Membership (get_or names j 0) (get_or firsts (get_or names j 0) 0) → Turn b names firsts j
   turn_of j l starts =
-      record { inside = omega (arith, named.inside); named = named.each j l; new = named.once j l; of_firsts = all.names; starts = starts }
+      record { inside = l; named = named.each j l; new = named.once j l; of_firsts = all.names; starts = starts }
 
   -- The first j names and name j.
   pub turns_more : (j : ℕ) → ((i : ℕ) → i < j → Turn b names firsts i) → Turn b names firsts j → (i : ℕ) → i < j + 1 → Turn b names firsts i

@@ -1,11 +1,10 @@
 -- `walk::side` meets its contract: one mark has all rights at the start, whose name alone is on the list, and the rounds follow.
-use Prim.Native.Nat.{ℕ}
-use mathlib.Core.Path.{◌∙◌}
-use native.Mathlib.Omega.{arith}
-use lib.ListN.{replicate, length-replicate, length-set}
+use Rattle.std.proofs.Common.{ℕ, replicate, length-set, refl, sym, subst, ◌∙◌}
+use lib.ListN.{length-replicate}
 use Rattle.index.specs.Letters.{all_rights}
 use Rattle.index.specs.Block.{name_count, IsName}
-use Rattle.rights.specs.work.Marks.{Marks, Walked}
+use Rattle.rights.specs.work.Marks.{Marks}
+use Rattle.rights.specs.work.Fronts.{Front}
 use Rattle.rights.proofs.laws.walk.MarksAreChains.{first, first_mask}
 use Rattle.rights.proofs.laws.held.Sides.{start_front, start_settled, walked_side, walked_count}
 use Rattle.rights.proofs.walk.side.Goals as goal
@@ -18,28 +17,20 @@ start_marks start h = record {
 }
 
 pub rounds-requires-clause-marks : goal.rounds-requires-clause-marks
-rounds-requires-clause-marks c =
-    let room = c.requires.marks_value.1 in (
-      rw c.requires.marks_value.0 (start_marks c.args.start c.requires.sized.1.1.1.0),
-      (record { of_marks = length-replicate {A = ℕ} name_count 0; of_names = simp length-set room.0 }, room.1),
-    )
+rounds-requires-clause-marks c = (rw c.requires.marks (start_marks c.args.start c.requires.start.0), refl)
 
 pub rounds-requires-clause-front : goal.rounds-requires-clause-front
 rounds-requires-clause-front c =
-    let a = c.args in
-    let clear = c.requires.marks_value.0 in (
-      rw clear (start_front a.names.now a.start (omega (arith, c.requires.marks_value.1.0)) c.requires.sized.1.1.1.0),
-      rw clear (start_settled a.block.now a.carry a.start),
+    let start = c.args.start in
+    let clear = c.requires.marks in (
+      rw clear (subst (Front _ _) (sym (rw c.clear.ensures at c.put.ensures)) (start_front start c.requires.start.0)),
+      rw clear (start_settled c.args.source.now.block.bytes.now c.args.carry start),
     )
 
-pub returns : goal.returns
-returns c =
-    let args = c.args in
-    let named = c.requires.sized.1.1.1.0 in
-    let walked : Walked args.block.now args.carry args.limit (replicate name_count 0) (first args.start) c.rounds.new.marks c.rounds.result =
-    rw c.requires.marks_value.0 at c.rounds.ensures.walked in
-    record {
-      side = walked_side args.carry args.start named walked;
-      count = walked_count args.carry args.start named walked;
-      firsts = c.rounds.ensures.firsts;
-    }
+pub returns-clause-side : goal.returns-clause-side
+returns-clause-side c =
+    walked_side c.args.carry c.args.start c.requires.start.0 (rw c.requires.marks at c.rounds.ensures.walked)
+
+pub returns-clause-count : goal.returns-clause-count
+returns-clause-count c =
+    walked_count c.args.carry c.args.start c.requires.start.0 (rw c.requires.marks at c.rounds.ensures.walked)

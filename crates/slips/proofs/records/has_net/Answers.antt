@@ -2,36 +2,22 @@
 use native.Mathlib.Omega.{arith}
 use Rattle.index.specs.work.Places.{At}
 use Rattle.index.proofs.laws.Answer.{says_same}
-use Rattle.index.proofs.laws.Range.{from_none, from_more}
 use Rattle.index.proofs.laws.block.Records.{of_records}
 use Rattle.rights.proofs.laws.ByNumber.{net_at, net_where}
-use Rattle.slips.proofs.laws.Parts.{in_part, pair_names, names_pair}
+use Rattle.rights.proofs.laws.Known.{is_good}
+use Rattle.slips.proofs.laws.Parts.{in_part, pair_names}
 use Rattle.slips.proofs.records.has_net.Goals as goal
-
-pub loop-i-init : goal.loop-i-init
-loop-i-init c = (omega arith, from_none _ _)
-
-pub has_right-requires : goal.has_right-requires
-has_right-requires c =
-    (c.requires.0, (c.requires.1.0, (of_records c.args.kind _ c.loop-i.i (in_part c.args.kind c.part_of-part.ensures c.loop-i.invariant.0 c.loop-i-test.true), c.requires.1.1)))
 
 pub returns-then-pair_of-pair : goal.returns-then-pair_of-pair
 returns-then-pair_of-pair c =
-    let good = c.requires.1.0 in
+    let good = is_good c.args.block in
     let of = in_part c.args.kind c.part_of-part.ensures c.loop-i.invariant.0 c.loop-i-test.true in
     let same = pair_names good (of_records c.args.kind _ c.loop-i.i of) c.pair_of.ensures c.ranges.x.fits c.if-pair_of-pair.true in
     let at : At _ c.args.kind _ _ _ = record { of = of; has_key = same.0; has_id = same.1 } in
-    let net = net_at good c.args.kind c.args.k c.requires.1.1 at in
+    let net = net_at good c.args.kind c.args.right.place c.args.right.small at in
     says_same c.has_right.result net.0 net.1 c.has_right.ensures
-
-pub loop-i-preserved : goal.loop-i-preserved
-loop-i-preserved c = (
-  omega (arith, c.loop-i.invariant.0),
-  from_more _ _ _ c.loop-i.invariant.1
-      (λ kx iy. c.if-pair_of-pair.false (names_pair c.requires.1.0 (of_records c.args.kind _ c.loop-i.i (in_part c.args.kind c.part_of-part.ensures c.loop-i.invariant.0 c.loop-i-test.true)) c.pair_of.ensures kx iy)),
-)
 
 pub returns : goal.returns
 returns c = λ n.
-    let w = net_where c.requires.1.0 c.args.kind c.args.k n in
+    let w = net_where (is_good c.args.block) c.args.kind c.args.right.place n in
     c.loop-i.invariant.1 w.0 (omega (arith, w.1.of.0, c.part_of-part.ensures.first)) (omega (arith, w.1.of.1, c.part_of-part.ensures.last, c.loop-i-test.false)) w.1.has_key w.1.has_id

@@ -9,9 +9,3 @@ invariant-loop-n l = (l.i ≤ l.n) × (l.n ≤ l.j) × Passed l.b l.kind l.i l.n
 
 abbrev pub decreases-loop-n : goal.decreases-loop-n
 decreases-loop-n l = l.j - l.n
-
-abbrev pub invariant-loop-n-2 : goal.invariant-loop-n-2
-invariant-loop-n-2 l = (l.i ≤ l.n) × (l.n ≤ l.j) × Passed l.b l.kind l.i l.n l.sight
-
-abbrev pub decreases-loop-n-2 : goal.decreases-loop-n-2
-decreases-loop-n-2 l = l.j - l.n

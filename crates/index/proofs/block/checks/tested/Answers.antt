@@ -4,9 +4,6 @@ use mathlib.Core.Logic.{inl, inr}
 use native.Mathlib.Omega.{arith}
 use Rattle.index.specs.Block.{Sized}
 use Rattle.index.specs.Calls.{block_needs}
-use Rattle.index.proofs.laws.Answer.{yes_not, no_not}
-use Rattle.std.proofs.Common.{ap}
-use mathlib.Core.Bool.{not}
 use Rattle.index.proofs.block.checks.tested.Goals as goal
 
 pub returns-then-b-lt-HEADER : goal.returns-then-b-lt-HEADER
@@ -19,11 +16,8 @@ returns-then-b-gt-GREATEST c = inl (λ s. omega arith, refl)
 
 pub returns-then-not-good : goal.returns-then-not-good
 unfolding block_needs Sized
-returns-then-not-good c =
-    inr
-    (omega arith, inl (λ g. no_not c.good.result (ap not c.if-not-good.true) g c.good.ensures, refl))
+returns-then-not-good c = inr (omega arith, inl (c.if-not-good.ensures, refl))
 
 pub returns : goal.returns
 unfolding block_needs Sized
-returns c =
-    inr (omega arith, inr (yes_not c.good.result (ap not c.if-not-good.false) c.good.ensures, refl))
+returns c = inr (omega arith, inr (c.if-not-good.ensures, refl))

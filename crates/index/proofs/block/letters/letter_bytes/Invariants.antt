@@ -1,13 +1,8 @@
 -- `index::block::letters::letter_bytes` meets its contract. The loop's invariant: the first k bytes are those of the first k letters.
-use Prim.Native.Nat.{ℕ, ◌-◌, ◌<◌, ◌≤◌}
-use mathlib.Core.Path.{◌≡◌}
-use lib.ListN.{length, get_or}
+use Rattle.std.proofs.Common.{ℕ, ◌<◌, ◌≡◌, length, get_or, None}
 use Rattle.index.specs.Letters.{letter_count}
 use Rattle.index.specs.work.Reading.{byte_of}
 use Rattle.index.proofs.block.letters.letter_bytes.Given as goal
 
 abbrev pub invariant-loop-k : goal.invariant-loop-k
-invariant-loop-k l = (l.k ≤ letter_count) × (length l.bytes ≡ letter_count) × ((j : ℕ) → j < l.k → get_or l.bytes j 0 ≡ byte_of l.kind j)
-
-abbrev pub decreases-loop-k : goal.decreases-loop-k
-decreases-loop-k l = letter_count - l.k
+invariant-loop-k l = (length l.bytes ≡ letter_count) × ((j : ℕ) → j < l.k → get_or l.bytes j None ≡ byte_of l.kind j)

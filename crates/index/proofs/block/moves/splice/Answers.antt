@@ -1,17 +1,7 @@
 -- A splice moves the bytes behind it and writes the header.
 use native.Mathlib.Omega.{arith}
-use borrow.Author.Rules.{rules}
 use Rattle.index.proofs.laws.block.Sizes.{shifted_size, shifted_records, spliced_is}
 use Rattle.index.proofs.block.moves.splice.Goals as goal
-
-pub shift-requires : goal.shift-requires
-shift-requires c =
-    let s = c in (
-      search rules,
-      search rules,
-      search rules,
-      λ t l. s.requires.good.tail t (omega (arith, s.requires.good.end_offset)),
-    )
 
 pub resize-requires : goal.resize-requires
 resize-requires c =

@@ -1,18 +1,13 @@
 -- `index::block::records::put_entry` meets its contract: key, id, and in the loop the counts.
-use Prim.Native.Nat.{ℕ, ◌-◌, ◌≤◌}
+use Prim.Native.Nat.{ℕ}
 use mathlib.Core.Path.{◌≡◌}
 use mathlib.Core.List.{List}
 use lib.ListN.{length}
-use Rattle.index.specs.Letters.{letter_count}
 use Rattle.index.proofs.laws.text.Entering.{Entering}
 use Rattle.index.proofs.block.records.put_entry.Given as goal
 
 abbrev pub invariant-loop-k : goal.invariant-loop-k
 invariant-loop-k l =
-    (l.k ≤ letter_count)
-    × (length l.b ≡ length l.initial.b)
+    (length l.b ≡ length l.initial.b)
     × ((a : List ℕ) → Entering l.key l.i (record { id = l.name; counts = l.counts }) 0 a l.initial.b
     → Entering l.key l.i (record { id = l.name; counts = l.counts }) l.k a l.b)
-
-abbrev pub decreases-loop-k : goal.decreases-loop-k
-decreases-loop-k l = letter_count - l.k

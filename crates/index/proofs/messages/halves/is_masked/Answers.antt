@@ -10,5 +10,4 @@ returns-then-h-eq0 c = λ m. omega (arith, m.0)
 
 pub returns : goal.returns
 unfolding Masked
-returns c =
-    says_same c.may_have_all.result (λ all. (omega arith, rw (← c.kind_of.ensures) all)) (λ m. rw c.kind_of.ensures m.1) c.may_have_all.ensures
+returns c = says_same c.may_have_all.result (λ all. (omega arith, all)) (λ m. m.1) c.may_have_all.ensures

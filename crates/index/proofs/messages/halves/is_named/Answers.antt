@@ -14,4 +14,4 @@ pub returns : goal.returns
 unfolding Named
 returns c =
     let h = c.args.h in
-    says_same (ltb h.y name_count) (λ l. (omega arith, l)) (λ n. n.1) (less_says h.y name_count)
+    says_same (ltb h.id name_count) (λ l. (omega arith, l)) (λ n. n.1) (less_says h.id name_count)

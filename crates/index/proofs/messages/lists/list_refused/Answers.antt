@@ -1,40 +1,39 @@
 -- The tests of a list of changes, in their order.
 use mathlib.Core.Path.{refl}
 use mathlib.Core.Logic.{inl, inr}
+use Rattle.index.specs.Numbers.{Answers}
 use Rattle.index.specs.Calls.{block_needs, list_needs}
-use Rattle.index.specs.work.Edits.{PassesTest}
-use Rattle.index.proofs.laws.Answer.{yes_not, no_not}
 use Rattle.index.proofs.laws.message.ListTests.{own_needs}
 use Rattle.index.proofs.laws.message.SentTests.{block_late}
 use Rattle.index.proofs.laws.Firsts.{answers_first}
-use Rattle.std.proofs.Common.{ap}
-use mathlib.Core.Bool.{not}
+use Rattle.index.proofs.laws.Refusing.{some, passed_on}
 use Rattle.index.proofs.messages.lists.list_refused.Goals as goal
 
-pub returns-then-number-ne0 : goal.returns-then-number-ne0
+pub returns-in_err-tested : goal.returns-in_err-tested
 unfolding list_needs
-returns-then-number-ne0 c = answers_first (block_needs c.args.block.now) (own_needs c.args.changes.now) c.if-number-ne0.true c.tested-number.ensures
+returns-in_err-tested c =
+    passed_on (Answers (list_needs c.args.block.now c.args.changes.now)) c.from_residual.result _ c.from_residual.ensures.1
+    (answers_first (block_needs c.args.block.now) (own_needs c.args.changes.now) (some _) c.in_err-tested.ensures)
 
-pub returns-then-not-all_pass : goal.returns-then-not-all_pass
-unfolding PassesTest list_needs
-returns-then-not-all_pass c =
-    block_late c.args.block.now (own_needs c.args.changes.now) 3 c.if-number-ne0.false c.tested-number.ensures
-    (inl (λ w. no_not c.all_pass.result (ap not c.if-not-all_pass.true) w c.all_pass.ensures, refl))
+pub returns-then-not-all_formed : goal.returns-then-not-all_formed
+unfolding list_needs
+returns-then-not-all_formed c =
+    block_late c.args.block.now (own_needs c.args.changes.now) 3 refl c.in_ok-tested.ensures (inl (c.if-not-all_formed.ensures, refl))
 
-pub returns-then-not-all_pass-2 : goal.returns-then-not-all_pass-2
-unfolding PassesTest list_needs
-returns-then-not-all_pass-2 c =
-    block_late c.args.block.now (own_needs c.args.changes.now) 4 c.if-number-ne0.false c.tested-number.ensures
-    (inr (yes_not c.all_pass.result (ap not c.if-not-all_pass.false) c.all_pass.ensures, inl (λ w. no_not c.all_pass-2.result (ap not c.if-not-all_pass-2.true) w c.all_pass-2.ensures, refl)))
+pub returns-then-not-all_named : goal.returns-then-not-all_named
+unfolding list_needs
+returns-then-not-all_named c =
+    block_late c.args.block.now (own_needs c.args.changes.now) 4 refl c.in_ok-tested.ensures
+    (inr (c.if-not-all_formed.ensures, inl (c.if-not-all_named.ensures, refl)))
 
-pub returns-then-not-all_pass-3 : goal.returns-then-not-all_pass-3
-unfolding PassesTest list_needs
-returns-then-not-all_pass-3 c =
-    block_late c.args.block.now (own_needs c.args.changes.now) 5 c.if-number-ne0.false c.tested-number.ensures
-    (inr (yes_not c.all_pass.result (ap not c.if-not-all_pass.false) c.all_pass.ensures, inr (yes_not c.all_pass-2.result (ap not c.if-not-all_pass-2.false) c.all_pass-2.ensures, inl (λ w. no_not c.all_pass-3.result (ap not c.if-not-all_pass-3.true) w c.all_pass-3.ensures, refl))))
+pub returns-then-not-all_masked : goal.returns-then-not-all_masked
+unfolding list_needs
+returns-then-not-all_masked c =
+    block_late c.args.block.now (own_needs c.args.changes.now) 5 refl c.in_ok-tested.ensures
+    (inr (c.if-not-all_formed.ensures, inr (c.if-not-all_named.ensures, inl (c.if-not-all_masked.ensures, refl))))
 
 pub returns : goal.returns
-unfolding PassesTest list_needs
+unfolding list_needs
 returns c =
-    block_late c.args.block.now (own_needs c.args.changes.now) 0 c.if-number-ne0.false c.tested-number.ensures
-    (inr (yes_not c.all_pass.result (ap not c.if-not-all_pass.false) c.all_pass.ensures, inr (yes_not c.all_pass-2.result (ap not c.if-not-all_pass-2.false) c.all_pass-2.ensures, inr (yes_not c.all_pass-3.result (ap not c.if-not-all_pass-3.false) c.all_pass-3.ensures, refl))))
+    block_late c.args.block.now (own_needs c.args.changes.now) 0 refl c.in_ok-tested.ensures
+    (inr (c.if-not-all_formed.ensures, inr (c.if-not-all_named.ensures, inr (c.if-not-all_masked.ensures, refl))))

@@ -1,19 +1,15 @@
--- Each name is compared with the next.
+-- Each name is compared with the one before.
+use Prim.Native.Nat.{◌+◌, ◌-◌}
+use mathlib.Core.Path.{◌≡◌}
 use native.Mathlib.Omega.{arith}
-use borrow.Author.Count.{below_none, below_more}
-use Rattle.index.proofs.laws.message.NameLists.{rising_steps, steps_rising}
+use Rattle.index.proofs.laws.message.NameLists.{steps_rising, rising_steps}
 use Rattle.index.proofs.messages.names.rises.Goals as goal
-
-pub loop-i-init : goal.loop-i-init
-loop-i-init c = (omega arith, below_none _)
 
 pub returns-then-name-number_at : goal.returns-then-name-number_at
 returns-then-name-number_at c r =
-    omega (arith, steps_rising c.args.m.now c.args.at c.args.n r c.loop-i.i c.loop-i-test.true, c.number_at-name.ensures.is, c.number_at.ensures.is, c.if-name-number_at.true)
-
-pub loop-i-preserved : goal.loop-i-preserved
-loop-i-preserved c =
-    (omega (arith, c.loop-i-test.true), below_more _ _ c.loop-i.invariant.1 (omega (arith, c.number_at-name.ensures.is, c.number_at.ensures.is, c.if-name-number_at.false)))
+    let i = c.loop-i.i in
+    let e : i - 1 + 1 ≡ i = omega arith in
+    omega (arith, rw e at (steps_rising c.args.m.now c.args.at c.args.n r (i - 1) (omega arith)))
 
 pub returns : goal.returns
-returns c = rising_steps c.args.m.now c.args.at c.args.n (λ j l. c.loop-i.invariant.1 j (omega (arith, l, c.loop-i-test.false)))
+returns c = rising_steps c.args.m.now c.args.at c.args.n (λ j l. c.loop-i.invariant j (omega arith))

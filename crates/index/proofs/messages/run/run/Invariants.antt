@@ -1,5 +1,4 @@
 -- Going on, change by change, or all the way back.
-use Prim.Native.Nat.{◌-◌, ◌≤◌}
 use mathlib.Core.Path.{◌≡◌}
 use lib.ListN.{length}
 use Rattle.index.specs.work.Edits.{Prepared, Went}
@@ -7,10 +6,6 @@ use Rattle.index.proofs.messages.run.run.Given as goal
 
 abbrev pub invariant-loop-i : goal.invariant-loop-i
 invariant-loop-i l =
-    (l.i ≤ length l.changes)
-    × (length l.b ≡ length l.initial.b)
+    (length l.b ≡ length l.initial.b)
     × Prepared l.changes l.b
     × Went l.initial.b l.changes l.i l.b
-
-abbrev pub decreases-loop-i : goal.decreases-loop-i
-decreases-loop-i l = length l.changes - l.i

@@ -1,5 +1,5 @@
 -- Going back, change by change.
-use Prim.Native.Nat.{ℕ, ◌≤◌}
+use Prim.Native.Nat.{ℕ}
 use mathlib.Core.Path.{◌≡◌}
 use mathlib.Core.List.{List}
 use lib.ListN.{length}
@@ -8,10 +8,6 @@ use Rattle.index.proofs.messages.run.undo.Given as goal
 
 abbrev pub invariant-loop-i : goal.invariant-loop-i
 invariant-loop-i l =
-    (l.i ≤ length l.changes)
-    × (length l.b ≡ length l.initial.b)
-    × Prepared l.changes l.b
-    × ((o : List ℕ) → Went o l.changes l.n l.initial.b → Went o l.changes l.i l.b)
-
-abbrev pub decreases-loop-i : goal.decreases-loop-i
-decreases-loop-i l = l.i
+    (length l.b ≡ length l.initial.b)
+    × Prepared l.done l.b
+    × ((o : List ℕ) → Went o l.done (length l.done) l.initial.b → Went o l.done l.i l.b)

@@ -1,26 +1,24 @@
--- `index::text::entries::is_counted` meets its contract: so far no letter is counted, so the total is that of the others.
-use Prim.Native.Nat.{ℕ}
-use mathlib.Core.List.{List}
-use mathlib.Core.Path.{sym, ap}
+-- Some letter is counted where the total is above zero.
+use Prim.Native.Nat.{ℕ, zero, suc, ◌+◌}
+use mathlib.Core.Path.{◌≡◌, refl, ◌∙◌}
+use mathlib.Core.List.{List, [], ◌∷◌}
 use native.Mathlib.Omega.{arith}
-use lib.ListN.{drop_of_length-le}
-use borrow.Author.Tests.{lt-ltb, le-ltb}
+use lib.Dec.{ltb}
+use borrow.Author.Rules.{rules}
+use borrow.Author.Tests.{tests, lt-ltb}
+use native.Mathlib.Nat.{zero-add}
+use Rattle.std.specs.List.{list_any}
+use Rattle.std.proofs.lemmas.Iterator.{YieldsList-from_slice}
+use Rattle.std.proofs.lemmas.Iterator.Search.{any_from_yields_List}
 use Rattle.index.specs.work.Reading.{total}
-use Rattle.index.proofs.laws.text.ReadSteps.{total_from}
 use Rattle.index.proofs.text.entries.is_counted.Goals as goal
 
-pub returns-then-counts-k-gt0 : goal.returns-then-counts-k-gt0
-returns-then-counts-k-gt0 c =
-    let cs : List ℕ = c.args.counts.now in
-    sym (lt-ltb 0 (total cs) (omega (arith, c.if-counts-k-gt0.true, total_from cs c.loop-k.k)))
-
-pub loop-k-preserved : goal.loop-k-preserved
-loop-k-preserved c =
-    let cs : List ℕ = c.args.counts.now in
-    omega (arith, c.if-counts-k-gt0.false, total_from cs c.loop-k.k)
+some_count : (cs : List ℕ) → list_any (ltb 0) cs ≡ ltb 0 (total cs)
+some_count [] = refl
+some_count (zero ∷ cs) = rw zero-add (some_count cs)
+some_count (suc c ∷ cs) = simp (lt-ltb 0 (suc c) (omega arith), lt-ltb 0 (suc c + total cs) (omega arith))
 
 pub returns : goal.returns
 returns c =
-    let cs : List ℕ = c.args.counts.now in
-    let e = ap total (drop_of_length-le cs {i = c.loop-k.k} (omega (arith, c.requires))) in
-    sym (le-ltb 0 (total cs) (omega arith))
+    let cs = c.args.counts.now in
+    any_from_yields_List (ltb 0) _ _ _ c.any.ensures.ran (YieldsList-from_slice cs cc) (λ x b q k. search (rules, tests)) ∙ some_count cs

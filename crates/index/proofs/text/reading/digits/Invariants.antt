@@ -1,12 +1,9 @@
 -- `index::text::reading::digits` meets its contract: a step of `read_digits` for each way.
-use Prim.Native.Nat.{◌≤◌, ◌-◌}
+use Prim.Native.Nat.{◌≤◌}
 use mathlib.Core.Path.{◌≡◌}
-use lib.ListN.{length, drop}
+use lib.ListN.{drop}
 use Rattle.index.specs.work.Reading.{read_digits}
 use Rattle.index.proofs.text.reading.digits.Given as goal
 
 abbrev pub invariant-loop-at : goal.invariant-loop-at
 invariant-loop-at l = (l.sum ≤ l.most) × (read_digits l.least l.most l.sum (drop l.at l.text) ≡ read_digits l.least l.most l.n (drop l.initial.at l.text))
-
-abbrev pub decreases-loop-at : goal.decreases-loop-at
-decreases-loop-at l = length l.text - l.at

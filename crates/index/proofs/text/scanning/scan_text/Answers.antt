@@ -8,18 +8,17 @@ use Rattle.index.specs.declared.Kind.{Kind}
 use Rattle.index.specs.declared.text.reading.Cursor.{Cursor}
 use Rattle.index.specs.declared.text.reading.Piece.{Piece}
 use Rattle.index.specs.declared.text.reading.Piece.TheVariants.{Wrong}
-use Rattle.index.specs.declared.Took.{Took}
-use Rattle.index.specs.declared.Took.TheVariants.{Wrong as NoSet}
+use Rattle.std.specs.Prelude.{Err}
 use Rattle.index.specs.work.Pieces.{place_in, Scanned}
-use Rattle.index.proofs.laws.text.Scans.{Turn, Refused, no_text, turn_first, turn_wrong, shorter, turn_last, turn_no_mark, turn_full, turn_next}
+use Rattle.index.proofs.laws.text.Scans.{Turn, Refused, no_text, turn_first, turn_wrong, turn_last, turn_no_mark, turn_full, turn_next}
 use Rattle.index.proofs.laws.text.HandedOn.{is_mark, is_entry, no_mark, no_entry}
 use Rattle.index.proofs.text.scanning.scan_text.Goals as goal
 
 -- A wrong piece, whose place is the text's.
-refused_so : (kind : Kind) (text : List ℕ) (p : Piece) (c : Cursor) (r : Took) → p ≡ Wrong c → r ≡ NoSet (length text - length (drop (place_in p) text))
-    → Refused kind text (length text - length (drop c.at text)) → Scanned kind text r
-refused_so kind text p c r e h none =
-    subst (Scanned kind text) (sym (h ∙ ap (λ (q : Piece). NoSet (length text - length (drop (place_in q) text))) e)) none
+refused_so : (kind : Kind) (text : List ℕ) (p : Piece) (c : Cursor) (n : ℕ) → p ≡ Wrong c → n ≡ length text - length (drop (place_in p) text)
+    → Refused kind text (length text - length (drop c.at text)) → Scanned kind text (Err n)
+refused_so kind text p c n e h none =
+    subst (Refused kind text) (sym (h ∙ ap (λ (q : Piece). length text - length (drop (place_in q) text)) e)) none
 
 pub returns-then-text-eq0 : goal.returns-then-text-eq0
 returns-then-text-eq0 c = no_text c.args.text.now c.args.kind c.if-text-eq0.true
@@ -34,16 +33,7 @@ returns-in_default c =
     let t : List ℕ = c.args.text.now in
     let r = c.read_record-entry in
     let w = no_entry t _ r.result _ c.in_default.not-Number r.ensures.sees_entry in
-    refused_so c.args.kind t _ _ _ w.1 c.refused.ensures (turn_wrong t c.args.kind l.here.at l.least l.n l.invariant.1 _ w.2)
-
--- ---- a record was read
-pub overflow_add-n : goal.overflow_add-n
-overflow_add-n c =
-    let l = c.loop-name in
-    let t : List ℕ = c.args.text.now in
-    let r = c.read_record-entry in
-    let read = is_entry t c.in-Number.is r.ensures.sees_entry in
-    omega (arith, l.invariant.1.room, shorter t c.args.kind l.here.at l.least l.n l.invariant.1 _ c.in-Number.next.at read)
+    refused_so c.args.kind t _ _ _ w.1 c.place_of.ensures (turn_wrong t c.args.kind l.here.at l.least l.n l.invariant.1 _ w.2)
 
 pub returns-then-text-at : goal.returns-then-text-at
 returns-then-text-at c =

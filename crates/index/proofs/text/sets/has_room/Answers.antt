@@ -4,4 +4,4 @@ use Rattle.index.proofs.text.sets.has_room.Goals as goal
 
 pub returns : goal.returns
 unfolding room
-returns c = rw (c.first_of.ensures.0, c.size_at.ensures.is)
+returns c = rw (c.end-all.ensures.0)

@@ -1,5 +1,4 @@
 -- `index::text::taking::fill` meets its contract. The loop: laws/text/Entering, `Taking`.
-use Prim.Native.Nat.{◌-◌, ◌≤◌}
 use mathlib.Core.Path.{◌≡◌}
 use mathlib.Core.List.{List}
 use lib.ListN.{length}
@@ -10,10 +9,6 @@ use Rattle.index.proofs.text.taking.fill.Given as goal
 
 abbrev pub invariant-loop-i : goal.invariant-loop-i
 invariant-loop-i l =
-    (l.i ≤ l.n)
-    × (length l.counts ≡ letter_count)
+    (length l.counts ≡ letter_count)
     × (length l.b ≡ length l.initial.b)
     × ((es : List Entry) → Writes l.kind es l.text → Taking l.key l.first l.text l.kind l.initial.b l.b l.here.at l.i es)
-
-abbrev pub decreases-loop-i : goal.decreases-loop-i
-decreases-loop-i l = l.n - l.i

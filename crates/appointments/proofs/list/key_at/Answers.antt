@@ -1,7 +1,0 @@
--- The key of an appointment.
-use Rattle.appointments.specs.Appointment.{appointment_at}
-use Rattle.appointments.proofs.list.key_at.Goals as goal
-
-pub returns : goal.returns
-unfolding appointment_at
-returns c = c.number_at.ensures
